@@ -1,0 +1,4 @@
+pub mod Accepted
+pub mod FirstNo
+pub mod Pairs
+pub mod Turns

@@ -1,0 +1,1 @@
+-- The rows of an accepted sheet, and a pair's among them.

@@ -1,0 +1,5 @@
+pub mod Faults
+pub mod FirstNo
+pub mod Questions
+pub mod Rows
+pub mod Sheets
