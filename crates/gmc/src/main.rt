@@ -1,0 +1,93 @@
+// gmc: does the commands of a journal, one to a line, and prints what each is answered.
+mod command;
+mod help;
+mod malformed;
+mod outcome;
+mod sheet_bytes;
+
+use crate::command::Command;
+use crate::malformed::Malformed;
+use crate::malformed::MalformedDisplay;
+use crate::outcome::Outcome;
+use crate::outcome::OutcomeDisplay;
+use std::env;
+use std::error::AnyError;
+use std::fs::File;
+use std::io;
+use std::io::BufRead;
+use std::io::BufReader;
+use std::io::Read;
+use std::str::from_utf8;
+
+// Does one command, and answers what is printed behind its line number.
+fn outcome_of<'a>(rt: &LibcRuntime, line: &'a str) -> Result<Outcome, Malformed<'a>> {
+    match command::parse(line)? {
+        Command::Check { sheet } => {
+            let bytes = sheet_bytes::read(rt, sheet)?;
+            Ok(Outcome::Check(sheet::check::check(bytes.as_slice())))
+        }
+    }
+}
+
+// Does one line of the journal and prints its outcome; false where it is malformed.
+fn take_line(rt: &LibcRuntime, number: u64, bytes: &[u8]) -> io::Result<bool> {
+    let Ok(text) = from_utf8(bytes) else {
+        println!(rt, "{number} malformed {}", Malformed::NotText)?;
+        return Ok(false);
+    };
+    let line = text.trim();
+    if line.is_empty() || line.starts_with('#') {
+        return Ok(true);
+    }
+    match outcome_of(rt, line) {
+        Ok(outcome) => {
+            println!(rt, "{number} {outcome}")?;
+            Ok(true)
+        }
+        Err(malformed) => {
+            println!(rt, "{number} malformed {malformed}")?;
+            Ok(false)
+        }
+    }
+}
+
+// Does the journal's lines in turn; false where one was malformed.
+fn do_journal<R: Read + Drop>(rt: &LibcRuntime, journal: R) -> io::Result<bool> {
+    let mut number: u64 = 0;
+    let mut well_formed = true;
+    for line in BufReader::new(journal).split(rt.alloc(), b'\n') {
+        number = number.saturating_add(1);
+        if !take_line(rt, number, line?.as_slice())? {
+            well_formed = false;
+        }
+    }
+    Ok(well_formed)
+}
+
+// The journal is the file that the first argument names, or else standard input.
+fn run(rt: &LibcRuntime) -> Result<(), AnyError> {
+    let mut args = env::args(rt)?;
+    let _program = args.next();
+    let well_formed = match args.next() {
+        None => do_journal(rt, rt.stdin())?,
+        Some(arg) => {
+            if arg.as_str() == "--help" {
+                return Ok(help::print(rt)?);
+            }
+            do_journal(rt, File::open(rt, arg.as_str())?)?
+        }
+    };
+    if well_formed {
+        Ok(())
+    } else {
+        Err("a line of the journal is malformed".into())
+    }
+}
+
+fn main(rt: LibcRuntime) -> Result<(), AnyError> {
+    let done = run(&rt);
+    if let Err(error) = &done {
+        eprintln!(rt, "gmc: {error}")?;
+    }
+    done
+}
