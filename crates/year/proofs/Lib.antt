@@ -1,0 +1,4 @@
+pub mod Sums
+pub mod Spread
+pub mod Passed
+pub mod Market

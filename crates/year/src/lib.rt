@@ -1,0 +1,9 @@
+// The year book's model and its law: what the book is, when each call is refused, what an accepted one does.
+ghost use Rattle.year.specs.Spread.{SpreadLawForAll};
+
+// The law of spreading.
+pub fn spread_law_holds() -> u8
+    ensures { λ _. ⌜ SpreadLawForAll ⌝ }
+{
+    0
+}
