@@ -1,0 +1,5 @@
+pub mod Opening
+pub mod Raised
+pub mod Sides
+pub mod Taken
+pub mod Views

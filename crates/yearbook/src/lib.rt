@@ -1,0 +1,6 @@
+// The year book: the accounts of the coordinators, and the calls that change and read them.
+pub mod account;
+pub mod book;
+pub mod fault;
+mod terms;
+mod tests;

@@ -1,0 +1,24 @@
+// The tests that several questions put.
+ghost use mathlib.Core.Path.{_≡_};
+ghost use mathlib.Core.Bool.{_&&_};
+ghost use lib.Dec.{leb};
+ghost use Rattle.sheet.specs.Questions.{within};
+
+// From -most to most.
+pub fn inside(amount: i64, most: u64) -> bool
+    ensures { λ r. ⌜ r ≡ within most amount ⌝ }
+{
+    amount.unsigned_abs() <= most
+}
+
+pub fn between(amount: u64, least: u64, most: u64) -> bool
+    ensures { λ r. ⌜ r ≡ (leb least amount && leb amount most) ⌝ }
+{
+    least <= amount && amount <= most
+}
+
+pub fn rate_and_day(rate: u32, day: u16) -> bool
+    ensures { λ r. ⌜ r ≡ (leb rate 10000000 && leb 1 day && leb day 366) ⌝ }
+{
+    rate <= 10_000_000 && 1 <= day && day <= 366
+}
