@@ -1,4 +1,6 @@
 // The year book's model and its law: what the book is, when each call is refused, what an accepted one does.
+pub mod shares;
+
 ghost use Rattle.year.specs.Spread.{SpreadLawForAll};
 ghost use Rattle.year.specs.Year.{YearLawForAll};
 
