@@ -9,3 +9,4 @@ pub mod Balances
 pub mod Isolation
 pub mod Opening
 pub mod Year
+pub mod Examples

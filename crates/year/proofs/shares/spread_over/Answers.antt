@@ -14,6 +14,7 @@ use Rattle.year.specs.Spread.{quotient, carried, spread}
 use Rattle.year.proofs.Sums.{total-next, total-take-le}
 use Rattle.year.proofs.Spread.{length-spread, spread-at, carried-mono, carried-none}
 use Rattle.year.proofs.shares.spread_over.Needs as need
+use Rattle.year.proofs.shares.spread_over.Needs.{After-carried-by-carried}
 
 pub loop-i-holds : need.loop-i-holds
 loop-i-holds c = (refl, sym (carried-none (c .args .amount) (c .args .demands .now)), λ k h. absurd (omega arith))
@@ -41,14 +42,18 @@ next amount whole sum demand i r given ds h w s g d e =
     let b : r ≡ carried amount ds (suc i) = rw add-one at a in
     (rw (b, g) (carried-mono amount ds i h), a, rw (b, g) (sym (spread-at amount ds i h)))
 
+turn : (c : After-carried-by-carried) → let ds = c .args .demands .now in let r = c .carried-by-carried .result in
+    (c .loop-i .given ≤ r) × (r ≡ carried (c .args .amount) ds (c .loop-i .i + 1)) × (r - c .loop-i .given ≡ getD (spread (c .args .amount) ds) (c .loop-i .i) 0)
+turn c =
+    next (c .args .amount) (c .total-demand-whole .result) (c .loop-i .sum) (c .from-sum .result) (c .loop-i .i) (c .carried-by-carried .result) (c .loop-i .given) (c .args .demands .now)
+    (c .loop-i-test .taken) (c .total-demand-whole .ensures) (c .loop-i .inv .0) (c .loop-i .inv .1) (c .from-sum .ensures) (c .carried-by-carried .ensures)
+
 pub sub-shares : need.sub-shares
-sub-shares c =
-    let t = next (c .args .amount) (c .total-demand-whole .result) (c .loop-i .sum) (c .from-sum .result) (c .loop-i .i) (c .carried-by-carried .result) (c .loop-i .given) (c .args .demands .now) (c .loop-i-test .taken) (c .total-demand-whole .ensures) (c .loop-i .inv .0) (c .loop-i .inv .1) (c .from-sum .ensures) (c .carried-by-carried .ensures) in
-    t .0
+sub-shares c = turn (need.at·sub-shares c .After-carried-by-carried) .0
 
 pub loop-i-again : need.loop-i-again
 loop-i-again c =
-    let t = next (c .args .amount) (c .total-demand-whole .result) (c .loop-i .sum) (c .from-sum .result) (c .loop-i .i) (c .carried-by-carried .result) (c .loop-i .given) (c .args .demands .now) (c .loop-i-test .taken) (c .total-demand-whole .ensures) (c .loop-i .inv .0) (c .loop-i .inv .1) (c .from-sum .ensures) (c .carried-by-carried .ensures) in
+    let t = turn (need.at·loop-i-again c .After-carried-by-carried) in
     let m = total-next (c .args .demands .now) (c .loop-i .i) (c .loop-i-test .taken) in
     let s = c .loop-i .inv .0 in
     let same = c .pre .length in
