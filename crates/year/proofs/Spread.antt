@@ -24,6 +24,11 @@ unfolding quotient
 quotient-is a zero h = absurd (not-suc-le-zero h)
 quotient-is a (suc w) h = refl
 
+pub quotient-none : (a w : ℕ) → w ≡ 0 → quotient a w ≡ 0
+unfolding quotient
+quotient-none a zero h = refl
+quotient-none a (suc w) h = absurd (omega arith)
+
 quotient-zero : (w : ℕ) → quotient 0 w ≡ 0
 unfolding quotient
 quotient-zero zero = refl
@@ -51,7 +56,7 @@ module _ (u : ℕ) (ws : List ℕ) where
       let m = total-more ws k h in
       quotient-mono _ _ (total ws) (mul-le-mul-left u (let l : total (take k ws) ≤ total (take (suc k) ws) = omega arith in l))
 
-  carried-none : carried u ws 0 ≡ 0
+  pub carried-none : carried u ws 0 ≡ 0
   carried-none = ap (λ n. quotient n (total ws)) (mul-zero u) ∙ quotient-zero (total ws)
 
   -- the first n shares sum to what the first n weights carry

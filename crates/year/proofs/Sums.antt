@@ -2,6 +2,7 @@
 use Prim.Native.Nat.{ℕ, zero, suc, _+_, _*_, _≤_, _<_}
 use native.Mathlib.Omega.{arith}
 use native.Mathlib.Nat.{not-suc-le-zero, zero-add, mul-suc}
+use native.Mathlib.Numerals.{add-one}
 use mathlib.Core.Path.{_≡_, refl, ap, sym, _∙_}
 use mathlib.Core.List.{List, [], _∷_, _++_, map}
 use lib.ListN.{length, getD, take, set, replicate}
@@ -76,7 +77,10 @@ total-more [] i h = absurd (not-suc-le-zero h)
 total-more (x ∷ xs) zero h = omega arith
 total-more (x ∷ xs) (suc i) h = omega (arith, total-more xs i (omega arith))
 
--- past the end there is nothing more
+-- the same by a loop's i + 1
+pub total-next : (xs : List ℕ) (i : ℕ) → i < length xs → total (take (i + 1) xs) ≡ total (take i xs) + getD xs i 0
+total-next xs i h = rw add-one (total-more xs i h)
+
 pub total-more-zero : (xs : List ℕ) (i : ℕ) → getD xs i 0 ≡ 0 → total (take (suc i) xs) ≡ total (take i xs)
 total-more-zero [] zero h = refl
 total-more-zero [] (suc i) h = refl

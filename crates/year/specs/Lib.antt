@@ -10,3 +10,4 @@ pub mod Amounts
 pub mod Defaults
 pub mod Isolation
 pub mod Year
+pub mod Examples
