@@ -1,6 +1,7 @@
 -- One account changed, seen from each side.
 use Prim.Native.Nat.{ℕ, zero, suc, _+_, _-_, _*_, _^_, _≤_, _<_}
 use native.Mathlib.Omega.{arith}
+use native.Mathlib.Nat.{sub-zero}
 use mathlib.Core.Path.{_≡_, refl, ap, ap₂, sym, _∙_}
 use mathlib.Core.Logic.{_⊎_, inl, inr, _≢_}
 use mathlib.Core.Bool.{Bool, true, false, _&&_}
@@ -123,3 +124,22 @@ rcs-front t zero n h = omega arith
 rcs-front t (suc i) zero h = absurd (omega arith)
 rcs-front [] (suc i) (suc n) h = omega arith
 rcs-front (a ∷ t) (suc i) (suc n) h = omega (arith, rcs-front t i n (omega arith))
+
+-- ---- parts from the start, and what stays with the sides
+
+-- the whole of a part from the start
+pub front : {X : Type 0} (n : ℕ) (xs : List X) → take (n - 0) xs ≡ take n xs
+front n xs = ap (λ m. take m xs) (sub-zero n)
+
+-- a front of an array, as the code passes it on
+pub front-of : (n : ℕ) (part array value : List ℕ) → length part ≡ n → take (length part) array ≡ value → take (n - 0) array ≡ value
+front-of n part array value l e = front n array ∙ ap (λ m. take m array) (sym l) ∙ e
+
+-- the same markets, the same bounds
+pub bounded-same : (n : ℕ) (t t′ : List Account) → n ≤ 64 → length t ≡ 64 → length t′ ≡ 64 → markets n t′ ≡ markets n t → Bounded n t → Bounded n t′
+bounded-same n t t′ few l l′ e h k w =
+    let m : getD t′ k empty-account .market ≡ getD t k empty-account .market = sym (markets-at n t′ (omega arith) k w) ∙ ap (λ xs. getD xs k (pos 0)) e ∙ markets-at n t (omega arith) k w in
+    rw m (h k w)
+
+pub rc-low : (n : ℕ) (t : List Account) (m : ℕ) → n ≤ length t → total (rcs n t) ≤ m → (k : ℕ) → k < n → getD t k empty-account .rc ≤ m
+rc-low n t m fit h k w = omega (arith, rcs-at n t fit k w, getD-le-total (rcs n t) k)

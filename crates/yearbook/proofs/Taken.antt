@@ -2,6 +2,7 @@
 use mathlib.Core.Path.{_≡_, refl, sym, ap, _∙_}
 use Rattle.std.specs.declared.option.Option.{Option}
 use Rattle.std.specs.declared.option.Option.the-variants.{Some, None}
+use Rattle.std.specs.declared.result.Result.{Result}
 use Rattle.std.specs.declared.result.Result.the-variants.{Ok, Err}
 use Rattle.questions.specs.Questions.{Refusal, answer}
 use Rattle.questions.proofs.Asked.{err-answer}
@@ -20,3 +21,7 @@ refused-leaves o value r b b′ e = rw (err-answer o value r e)
 
 pub accepted-leaves : (o : Option Refusal) (b b′ b″ : Book) → o ≡ None → b″ ≡ b′ → b″ ≡ settled o b b′
 accepted-leaves o b b′ b″ e w = rw e w
+
+-- the last question decides
+pub taken-last : {T : Type 0} (b : Book) (call : Call) (value : T) (b′ : Book) (o : Option Refusal) (said : Result T Refusal) → refusal b call ≡ o → said ≡ answer o value → b′ ≡ settled o b (effect b call) → Taken b call value b′ said
+taken-last b call value b′ o said e a w = record { answered = rw e a; left = rw e w }

@@ -3,12 +3,14 @@ use Prim.Native.Nat.{ℕ, _+_, _*_}
 use mathlib.Core.Bool.{Bool, false, _&&_}
 use mathlib.Core.List.{List, []}
 use lib.Dec.{ltb}
-use lib.ListN.{take, getD}
+use lib.IntN.{ℤ, _+ℤ_}
+use lib.ListN.{take, getD, set}
 use Rattle.std.specs.declared.option.Option.{Option}
 use Rattle.yearbook.specs.declared.account.Account.{Account}
 use Rattle.yearbook.specs.declared.book.YearBook.{YearBook}
 use Rattle.yearbook.specs.Accounts.{markets, rcs}
 use Rattle.year.specs.Terms.{Terms}
+use Rattle.year.specs.Market.{market-balance}
 use Rattle.year.specs.Book.{Book, opened}
 
 -- sixteen codes for each day
@@ -31,3 +33,11 @@ book-of book = view (book .count) (book .accounts .table) (book .demands) (book 
 -- a book not yet opened has no coordinators
 abbrev pub unopened : Book
 unopened = opened (record { demands = []; flags = [] })
+
+-- the book with a coordinator's market balance moved by an amount
+abbrev pub with-market : Book → ℕ → ℤ → Book
+with-market b coordinator amount = record {
+  terms = b .terms;
+  market = record { balances = set (b .market .balances) coordinator (market-balance (b .market) coordinator +ℤ amount); posted = b .market .posted };
+  rc = b .rc;
+}

@@ -1,5 +1,7 @@
 // The year book. Its RC balances keep within the assessed charge, so the products of spreading fit.
+pub mod market;
 pub mod opening;
+pub mod rc;
 pub mod reading;
 
 ghost use mathlib.Core.Path.{_≡_};

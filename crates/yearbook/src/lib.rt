@@ -2,5 +2,6 @@
 pub mod account;
 pub mod book;
 pub mod fault;
+mod shares;
 mod terms;
 mod tests;
