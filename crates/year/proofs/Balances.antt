@@ -12,7 +12,7 @@ use Rattle.std.proofs.shelf.Tests.{cases-bool}
 use Rattle.year.specs.Spread.{spread}
 use Rattle.year.specs.Terms.{Terms}
 use Rattle.year.specs.Market.{post, adjust, pay-market}
-use Rattle.year.specs.Rc.{pay-rc, assess, default, assessment, carrier-weights}
+use Rattle.year.specs.Rc.{pay-rc, assess, default, carrier-weights}
 use Rattle.year.specs.Book.{Call, of-market, of-rc}
 use Rattle.year.specs.Balances.{line-in, adjustment-in, market-payment-in, assessed-in, rise-in, unpaid-in, rc-payment-in}
 use Rattle.year.proofs.Market.{own, market-move}

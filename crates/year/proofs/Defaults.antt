@@ -97,7 +97,7 @@ default-law t b debtor unpaid h ok =
     let within : debtor < length (b .balances) = omega arith in
     record {
       falls = rise-debtor ws (b .balances) debtor unpaid long out (q .covered) within;
-      carried = rise-sum ws (b .balances) debtor unpaid long out (q .covered) within (q .carriers);
+      sum = rise-sum ws (b .balances) debtor unpaid long out (q .covered) within (q .carriers);
       proportion = λ k w n.
           let d : getD ws k 0 ≡ getD (t .demands) k 0 = getD-set-other (t .demands) debtor k 0 0 n in
           rw (← d, total-others debtor (t .demands) here) (rise-near ws (b .balances) debtor unpaid long out (q .covered) k (omega arith) n (q .carriers));
