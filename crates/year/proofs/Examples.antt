@@ -1,5 +1,5 @@
 -- The worked examples, computed.
-use mathlib.Core.Path.{_≡_, refl, ap}
+use mathlib.Core.Path.{_≡_, refl}
 use mathlib.Core.List.{List, [], _∷_, map}
 use Rattle.std.specs.shelf.Lists.{All}
 use Rattle.questions.specs.Questions.{ask, first, in-turn}
@@ -10,7 +10,7 @@ use Rattle.year.specs.Terms.{flagged, coordinator-refusal, open-refusal}
 use Rattle.year.specs.Market.{coordinators-refusal, balance-refusal, lines-refusal, post-refusal, adjust-refusal, pay-market-refusal, market-effect}
 use Rattle.year.specs.Rc.{minimums, assessment, spreadable, pay-rc-refusal, assess-refusal, default-refusal, passed-on, rc-effect}
 use Rattle.year.specs.Book.{no-market, no-rc}
-use Rattle.year.specs.Examples.{Example, Result, Examples, Holds, result, expected, table}
+use Rattle.year.specs.Examples.{Example, Examples, Holds, result, expected, table}
 
 -- what two lists have in common, each place has
 all-equal : (es : List Example) → map result es ≡ map expected es → All Holds es

@@ -1,15 +1,15 @@
 -- What an accepted call does to the market side.
-use Prim.Native.Nat.{ℕ, zero, suc, _+_, _-_, _≤_, _<_}
+use Prim.Native.Nat.{ℕ, _<_}
 use native.Mathlib.Omega.{arith}
 use native.Mathlib.Nat.{zero-add}
-use mathlib.Core.Path.{_≡_, refl, ap, sym, _∙_}
-use mathlib.Core.Logic.{_⊎_, inl, inr, _≢_}
-use mathlib.Core.Bool.{Bool, true, false, cond}
-use mathlib.Core.List.{List, [], _∷_, map}
+use mathlib.Core.Path.{_≡_, ap, sym, _∙_}
+use mathlib.Core.Logic.{inl, inr, _≢_}
+use mathlib.Core.Bool.{Bool, true, cond}
+use mathlib.Core.List.{List}
 use lib.Dec.{eqb}
 use lib.ListN.{length, getD, set, length-set}
 use lib.Seq.{getD-set-same, getD-set-other}
-use lib.IntN.{ℤ, pos, negsuc, _+ℤ_, _-ℤ_, negℤ, +ℤ-idr}
+use lib.IntN.{ℤ, pos, _+ℤ_, _-ℤ_, negℤ, +ℤ-idr}
 use Rattle.std.proofs.shelf.Signed.{ints}
 use Rattle.std.proofs.shelf.Counted.{length-map-counting, getD-map-counting}
 use Rattle.std.proofs.shelf.Tests.{cases-bool, cases-eq, eqb-true, eqb-false}
@@ -17,7 +17,7 @@ use Rattle.std.specs.declared.option.Option.the-variants.{None}
 use Rattle.sheet.specs.Rows.{rows}
 use Rattle.sheet.specs.Questions.{within}
 use Rattle.charges.specs.Rules.{Meaning, lines, line-of}
-use Rattle.charges.specs.Sums.{total, totalZ}
+use Rattle.charges.specs.Sums.{totalZ}
 use Rattle.year.specs.Plus.{plusZ}
 use Rattle.year.specs.Market.{Market, MarketCall, post, adjust, pay-market, market-balance, market-refusal, market-effect}
 use Rattle.year.specs.Amounts.{MarketAmounts, market-amounts, MarketBounded}

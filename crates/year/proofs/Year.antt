@@ -1,21 +1,21 @@
 -- The year law.
-use Prim.Native.Nat.{ℕ, _+_, _≤_, _<_}
+use Prim.Native.Nat.{ℕ, _<_}
 use native.Mathlib.Omega.{arith}
 use mathlib.Core.Path.{_≡_, refl, ap, sym, subst, _∙_}
 use mathlib.Core.List.{List}
-use lib.ListN.{length, getD}
-use lib.IntN.{ℤ, pos, _+ℤ_, _-ℤ_, +ℤ-idl, +ℤ-idr}
+use lib.ListN.{length}
+use lib.IntN.{pos, _+ℤ_, +ℤ-idl, +ℤ-idr}
 use Rattle.std.proofs.shelf.Signed.{ints}
 use Rattle.std.specs.declared.option.Option.the-variants.{None}
-use Rattle.charges.specs.Sums.{total, overZ}
-use Rattle.year.specs.Terms.{Terms, count, open-refusal}
+use Rattle.charges.specs.Sums.{overZ}
+use Rattle.year.specs.Terms.{Terms, count}
 use Rattle.year.specs.Market.{market-balance}
 use Rattle.year.specs.Rc.{RcCall, default, rc-balance}
-use Rattle.year.specs.Book.{Book, Call, of-market, of-rc, opened, refusal, effect, step, run, outcomes, accepted-calls}
+use Rattle.year.specs.Book.{Book, Call, of-market, of-rc, opened, refusal, effect, step, outcomes, accepted-calls}
 use Rattle.year.specs.Balances.{EachBalance, line-in, adjustment-in, market-payment-in, assessed-in, rise-in, unpaid-in, rc-payment-in}
 use Rattle.year.specs.Amounts.{Amounts, no-amounts, amounts-with, amounts-after, Sums, ProductsFit, MarketBounded}
 use Rattle.year.specs.Defaults.{DefaultLaw}
-use Rattle.year.specs.Year.{YearLaw, YearLawForAll, after}
+use Rattle.year.specs.Year.{YearLawForAll, after}
 use Rattle.year.proofs.Passed.{Opens, open-passed}
 use Rattle.year.proofs.Market.{MarketSum, market-long, market-moves, market-sums, market-bounds}
 use Rattle.year.proofs.Rc.{RcAgrees, rc-long, rc-moves, rc-agrees, products-fit}

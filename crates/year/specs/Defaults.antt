@@ -4,7 +4,7 @@ use mathlib.Core.Path.{_≡_}
 use mathlib.Core.Logic.{_≢_}
 use mathlib.Core.List.{List, [], _∷_}
 use lib.IntN.{ℤ, pos, _+ℤ_, _-ℤ_, _*ℤ_, negℤ}
-use lib.ListN.{length, getD}
+use lib.ListN.{getD}
 use lib.Signed.{_<ℤ_}
 use Rattle.charges.specs.Sums.{total, totalZ}
 use Rattle.year.specs.Spread.{spread}
