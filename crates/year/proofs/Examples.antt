@@ -10,10 +10,10 @@ use Rattle.year.specs.Terms.{flagged, coordinator-refusal, open-refusal}
 use Rattle.year.specs.Market.{coordinators-refusal, balance-refusal, lines-refusal, post-refusal, adjust-refusal, pay-market-refusal, market-effect}
 use Rattle.year.specs.Rc.{minimums, assessment, spreadable, pay-rc-refusal, assess-refusal, default-refusal, passed-on, rc-effect}
 use Rattle.year.specs.Book.{no-market, no-rc}
-use Rattle.year.specs.Examples.{Example, Examples, Holds, result, expected, table}
+use Rattle.year.specs.Examples.{Example, Examples, Holds, result, table}
 
--- what two lists have in common, each place has
-all-equal : (es : List Example) → map result es ≡ map expected es → All Holds es
+-- the lists are equal, so each place is
+all-equal : (es : List Example) → map (λ e. result (e .worked)) es ≡ map (λ e. e .expected) es → All Holds es
 all-equal [] h = tt
 all-equal (e ∷ es) h = (cc, all-equal es (cc))
 
