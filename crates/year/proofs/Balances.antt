@@ -1,18 +1,16 @@
 -- What an accepted call moves on a balance, in the parts that the law names.
-use Prim.Native.Nat.{ℕ, _+_, _<_}
+use Prim.Native.Nat.{ℕ}
 use native.Mathlib.Omega.{arith}
 use mathlib.Core.Path.{_≡_, refl}
 use mathlib.Core.Logic.{inl, inr}
 use mathlib.Core.Bool.{cond}
 use lib.Dec.{eqb}
 use lib.IntN.{ℤ, pos, _+ℤ_, _-ℤ_, negℤ}
-use lib.ListN.{getD}
 use Rattle.std.proofs.shelf.Signed.{ints}
 use Rattle.std.proofs.shelf.Tests.{cases-bool}
-use Rattle.year.specs.Spread.{spread}
 use Rattle.year.specs.Terms.{Terms}
 use Rattle.year.specs.Market.{post, adjust, pay-market}
-use Rattle.year.specs.Rc.{pay-rc, assess, default, assessment, carrier-weights}
+use Rattle.year.specs.Rc.{pay-rc, assess, default}
 use Rattle.year.specs.Book.{Call, of-market, of-rc}
 use Rattle.year.specs.Balances.{line-in, adjustment-in, market-payment-in, assessed-in, rise-in, unpaid-in, rc-payment-in}
 use Rattle.year.proofs.Market.{own, market-move}

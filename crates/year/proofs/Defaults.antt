@@ -1,15 +1,12 @@
 -- What an accepted default does to the RC balances.
-use Prim.Native.Nat.{ℕ, zero, suc, _+_, _-_, _*_, _≤_, _<_}
+use Prim.Native.Nat.{ℕ, zero, suc, _+_, _*_, _≤_, _<_}
 use native.Mathlib.Omega.{arith}
 use mathlib.Core.Path.{_≡_, refl, ap, sym, _∙_}
 use mathlib.Core.Logic.{_≢_}
-use mathlib.Core.Bool.{Bool, true, false, cond}
 use mathlib.Core.List.{List, [], _∷_}
-use lib.Dec.{eqb}
 use lib.ListN.{length, getD, set, length-set}
 use lib.Seq.{getD-set-same, getD-set-other}
-use lib.IntN.{ℤ, pos, negsuc, _+ℤ_, _-ℤ_, _*ℤ_, negℤ}
-use lib.Signed.{_<ℤ_}
+use lib.IntN.{ℤ, pos, _+ℤ_, _-ℤ_, negℤ}
 use Rattle.std.proofs.shelf.Signed.{ints}
 use Rattle.std.proofs.shelf.Tests.{eq-eqb, ne-eqb}
 use Rattle.std.specs.declared.option.Option.the-variants.{None}
@@ -97,7 +94,7 @@ default-law t b debtor unpaid h ok =
     let within : debtor < length (b .balances) = omega arith in
     record {
       falls = rise-debtor ws (b .balances) debtor unpaid long out (q .covered) within;
-      carried = rise-sum ws (b .balances) debtor unpaid long out (q .covered) within (q .carriers);
+      sum = rise-sum ws (b .balances) debtor unpaid long out (q .covered) within (q .carriers);
       proportion = λ k w n.
           let d : getD ws k 0 ≡ getD (t .demands) k 0 = getD-set-other (t .demands) debtor k 0 0 n in
           rw (← d, total-others debtor (t .demands) here) (rise-near ws (b .balances) debtor unpaid long out (q .covered) k (omega arith) n (q .carriers));

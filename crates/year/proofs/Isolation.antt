@@ -1,17 +1,17 @@
 -- A market balance depends on nothing that does not concern its coordinator.
-use Prim.Native.Nat.{ℕ, zero, suc, _<_}
+use Prim.Native.Nat.{ℕ, suc}
 use native.Mathlib.Omega.{arith}
 use mathlib.Core.Path.{_≡_, refl, ap, ap₂, sym, _∙_}
 use mathlib.Core.List.{List, [], _∷_}
-use lib.ListN.{length, getD}
-use lib.IntN.{ℤ, pos, _+ℤ_}
+use lib.ListN.{length}
+use lib.IntN.{pos, _+ℤ_}
 use Rattle.std.proofs.shelf.Tests.{ne-eqb}
 use Rattle.sheet.specs.declared.row.Row.{Row}
 use Rattle.sheet.specs.Rows.{rows, own-rows}
 use Rattle.charges.specs.Rules.{Meaning, line, line-of, quantity-of}
 use Rattle.charges.specs.Sums.{overZ}
-use Rattle.year.specs.Market.{MarketCall, post, adjust, pay-market}
-use Rattle.year.specs.Book.{Book, Call, of-market, of-rc, Outcome, refused, accepted, accepted-of}
+use Rattle.year.specs.Market.{post, adjust, pay-market}
+use Rattle.year.specs.Book.{Call, of-market, of-rc, Outcome, refused, accepted, accepted-of}
 use Rattle.year.specs.Isolation.{Elsewhere, Alike, posts, adjusts, pays, neither, SameOutcome, SameOutcomes}
 use Rattle.year.proofs.Sums.{zero-not-suc}
 use Rattle.year.proofs.Balances.{moves-market}

@@ -1,5 +1,5 @@
 -- What holds after a list of calls, from what holds of one accepted call.
-use Prim.Native.Nat.{ℕ, suc, _+_}
+use Prim.Native.Nat.{ℕ, suc}
 use native.Mathlib.Omega.{arith}
 use mathlib.Core.Path.{_≡_, refl, ap, sym, _∙_}
 use mathlib.Core.List.{List, [], _∷_}
@@ -12,6 +12,12 @@ use Rattle.questions.specs.Questions.{Refusal}
 use Rattle.charges.specs.Sums.{over, overZ}
 use Rattle.year.specs.Book.{Book, Call, refusal, effect, settled, step, run, outcome, outcomes, accepted-of, accepted-calls}
 use Rattle.year.specs.Amounts.{Amounts, amounts-with, amounts-after}
+
+pub step-accepted : (b : Book) (c : Call) → refusal b c ≡ None → step b c ≡ effect b c
+step-accepted b c e = rw e
+
+pub step-refused : {r : Refusal} (b : Book) (c : Call) → refusal b c ≡ Some r → step b c ≡ b
+step-refused b c e = rw e
 
 -- what each accepted call keeps, every list of calls keeps
 module _ (P : Book → Type 0) (keeps : (b : Book) (c : Call) → P b → refusal b c ≡ None → P (effect b c)) where

@@ -1,25 +1,26 @@
 -- What an accepted call does to the market side.
-use Prim.Native.Nat.{ℕ, zero, suc, _+_, _-_, _≤_, _<_}
+use Prim.Native.Nat.{ℕ, _<_}
 use native.Mathlib.Omega.{arith}
 use native.Mathlib.Nat.{zero-add}
-use mathlib.Core.Path.{_≡_, refl, ap, sym, _∙_}
-use mathlib.Core.Logic.{_⊎_, inl, inr, _≢_}
-use mathlib.Core.Bool.{Bool, true, false, cond}
-use mathlib.Core.List.{List, [], _∷_, map}
+use mathlib.Core.Path.{_≡_, ap, sym, _∙_}
+use mathlib.Core.Logic.{inl, inr, _≢_}
+use mathlib.Core.Bool.{Bool, true, cond}
+use mathlib.Core.List.{List}
 use lib.Dec.{eqb}
 use lib.ListN.{length, getD, set, length-set}
 use lib.Seq.{getD-set-same, getD-set-other}
-use lib.IntN.{ℤ, pos, negsuc, _+ℤ_, _-ℤ_, negℤ, +ℤ-idr}
+use lib.IntN.{ℤ, pos, _+ℤ_, _-ℤ_, negℤ, +ℤ-idr}
 use Rattle.std.proofs.shelf.Signed.{ints}
 use Rattle.std.proofs.shelf.Counted.{length-map-counting, getD-map-counting}
 use Rattle.std.proofs.shelf.Tests.{cases-bool, cases-eq, eqb-true, eqb-false}
 use Rattle.std.specs.declared.option.Option.the-variants.{None}
+use Rattle.questions.proofs.Asked.{turn-same}
 use Rattle.sheet.specs.Rows.{rows}
 use Rattle.sheet.specs.Questions.{within}
 use Rattle.charges.specs.Rules.{Meaning, lines, line-of}
-use Rattle.charges.specs.Sums.{total, totalZ}
+use Rattle.charges.specs.Sums.{totalZ}
 use Rattle.year.specs.Plus.{plusZ}
-use Rattle.year.specs.Market.{Market, MarketCall, post, adjust, pay-market, market-balance, market-refusal, market-effect}
+use Rattle.year.specs.Market.{Market, MarketCall, post, adjust, pay-market, market-balance, balance-refusal, lines-refusal, market-refusal, market-effect}
 use Rattle.year.specs.Amounts.{MarketAmounts, market-amounts, MarketBounded}
 use Rattle.year.proofs.Sums.{length-plusZ, getD-plusZ, totalZ-set, totalZ-plusZ}
 use Rattle.year.proofs.Passed.{post-passed, adjust-passed, pay-market-passed}
@@ -37,6 +38,11 @@ market-move k (pay-market who amount) = own who k (negℤ (pos amount))
 -- the balances sum to what the amounts say
 pub record MarketSum (b : Market) (a : MarketAmounts) : Type 0 where
   pub sum : totalZ (b .balances) ≡ pos (a .lines) +ℤ a .adjustments -ℤ pos (a .payments)
+
+-- equal lines ask the same questions
+pub lines-refusal-same : (n : ℕ) (b : Market) (line line′ : ℕ → ℕ) → ((k : ℕ) → k < n → line k ≡ line′ k) → lines-refusal n b line ≡ lines-refusal n b line′
+unfolding lines-refusal
+lines-refusal-same n b line line′ h = turn-same n _ _ (λ k w. ap (λ z. balance-refusal k (market-balance b k +ℤ pos z)) (h k w))
 
 -- the balance of k after a change at who
 set-own : (xs : List ℤ) (who k : ℕ) (a : ℤ) → k < length xs → getD (set xs who (getD xs who (pos 0) +ℤ a)) k (pos 0) ≡ getD xs k (pos 0) +ℤ own who k a

@@ -1,9 +1,9 @@
 -- The book as opened.
-use Prim.Native.Nat.{ℕ, _+_, _≤_, _<_}
+use Prim.Native.Nat.{ℕ, _<_}
 use native.Mathlib.Omega.{arith}
 use mathlib.Core.Path.{_≡_, refl, ap}
-use lib.ListN.{length, getD, replicate}
-use lib.IntN.{ℤ, pos}
+use lib.ListN.{length}
+use lib.IntN.{pos}
 use Rattle.std.proofs.shelf.Lists.{length-replicate, getD-replicate}
 use Rattle.year.specs.Market.{market-balance}
 use Rattle.year.specs.Rc.{rc-balance}

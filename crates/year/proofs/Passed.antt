@@ -1,13 +1,13 @@
 -- What follows from a call's having passed its questions.
-use Prim.Native.Nat.{ℕ, _-_, _*_, _≤_, _<_}
+use Prim.Native.Nat.{ℕ, _*_, _≤_, _<_}
 use native.Mathlib.Omega.{arith}
 use mathlib.Core.Path.{_≡_, refl, sym}
 use mathlib.Core.Logic.{_⊎_, inl, inr}
-use mathlib.Core.Bool.{Bool, true, false, not}
+use mathlib.Core.Bool.{true, not}
 use mathlib.Core.List.{List}
-use lib.Dec.{leb, ltb, eqb}
+use lib.Dec.{ltb, eqb}
 use lib.IntN.{ℤ, pos, _+ℤ_, _-ℤ_}
-use lib.ListN.{length, getD}
+use lib.ListN.{length}
 use Rattle.std.specs.Options.{isSome}
 use Rattle.std.specs.declared.option.Option.{Option}
 use Rattle.std.specs.declared.option.Option.the-variants.{Some, None}
@@ -17,9 +17,9 @@ use Rattle.sheet.specs.Rows.{rows}
 use Rattle.sheet.specs.Questions.{within}
 use Rattle.charges.specs.Rules.{Meaning, line-of}
 use Rattle.charges.specs.Sums.{total}
-use Rattle.year.specs.Terms.{Terms, count, coordinator-refusal, open-refusal}
+use Rattle.year.specs.Terms.{Terms, count, demand-at, flag-at, flagged, coordinator-refusal, open-refusal}
 use Rattle.year.specs.Market.{Market, market-balance, balance-refusal, lines-refusal, post-refusal, adjust-refusal, pay-market-refusal}
-use Rattle.year.specs.Rc.{Rc, rc-balance, minimums, rest, carrier-weights, spreadable, pay-rc-refusal, assess-refusal, default-refusal}
+use Rattle.year.specs.Rc.{Rc, rc-balance, rest, carrier-weights, spreadable, pay-rc-refusal, assess-refusal, default-refusal}
 use Rattle.year.proofs.Sums.{total-le}
 
 -- ---- opening
@@ -28,10 +28,15 @@ pub record Opens (t : Terms) : Type 0 where
   pub flags-long : length (t .flags) ≡ count t
   pub few : count t ≤ 64
   pub demands-bound : total (t .demands) ≤ 3200000000
+  pub flagged-demand : (k : ℕ) → k < count t → flag-at t k ≡ 1 → demand-at t k ≡ 0
 
-demand-passed : (t : Terms) (k : ℕ) → coordinator-refusal t k ≡ None → getD (t .demands) k 0 ≤ 50000000
+demand-passed : (t : Terms) (k : ℕ) → coordinator-refusal t k ≡ None → (demand-at t k ≤ 50000000) × (flag-at t k ≡ 1 → demand-at t k ≡ 0)
 unfolding coordinator-refusal
-demand-passed t k h = leb-true _ _ (and-parts _ _ (and-parts _ _ (ask-passed _ _ _ _ h .0) .0) .0)
+demand-passed t k h =
+    let p = and-parts _ _ (ask-passed _ _ _ _ h .0) in (
+      leb-true _ _ (and-parts _ _ (p .0) .0),
+      λ flag. elim (or-cases (eqb (flag-at t k) 0) (eqb (demand-at t k) 0) (p .1)) [ inl e ↦ absurd (let z = eqb-true (flag-at t k) 0 e in omega arith) | inr e ↦ eqb-true (demand-at t k) 0 e ],
+    )
 
 pub open-passed : (t : Terms) → open-refusal t ≡ None → Opens t
 unfolding open-refusal
@@ -39,8 +44,14 @@ open-passed t h =
     let p = ask-passed _ _ _ _ h in
     let sizes = and-parts _ _ (p .0) in
     let few : count t ≤ 64 = leb-true _ _ (sizes .1) in
-    let each = total-le 50000000 (t .demands) (λ k w. demand-passed t k (turn-at (coordinator-refusal t) (count t) k (p .1) w)) in
-    record { flags-long = sym (eqb-true _ _ (and-parts _ _ (sizes .0) .0)); few = few; demands-bound = omega arith }
+    let each : (k : ℕ) → k < count t → coordinator-refusal t k ≡ None = λ k w. turn-at (coordinator-refusal t) (count t) k (p .1) w in
+    let bound = total-le 50000000 (t .demands) (λ k w. demand-passed t k (each k w) .0) in
+    record {
+      flags-long = sym (eqb-true _ _ (and-parts _ _ (sizes .0) .0));
+      few = few;
+      demands-bound = omega arith;
+      flagged-demand = λ k w. demand-passed t k (each k w) .1;
+    }
 
 -- ---- the market side
 
@@ -95,7 +106,7 @@ pay-rc-passed t b k a h =
 
 pub record AssessPassed (t : Terms) (b : Rc) (charge minimum : ℕ) : Type 0 where
   pub unassessed : b .charge ≡ None
-  pub enough : total (minimums t minimum) ≤ charge
+  pub enough : minimum * flagged t ≤ charge
   pub bound : charge ≤ 2000000000
   pub carriers : (rest t charge minimum ≡ 0) ⊎ (0 < total (t .demands))
 

@@ -1,23 +1,24 @@
 -- What an accepted call does to the RC side.
-use Prim.Native.Nat.{ℕ, zero, suc, _+_, _-_, _*_, _^_, _≤_, _<_}
+use Prim.Native.Nat.{ℕ, _+_, _-_, _*_, _≤_, _<_}
 use native.Mathlib.Omega.{arith}
-use native.Mathlib.Nat.{mul-le-mul}
+use native.Mathlib.Nat.{mul-le-mul, mul-add, mul-one, mul-zero}
 use mathlib.Core.Path.{_≡_, refl, ap, sym, subst, _∙_}
 use mathlib.Core.Logic.{_⊎_, inl, inr, _≢_}
-use mathlib.Core.Bool.{Bool, true, false, cond}
+use mathlib.Core.Bool.{cond}
 use mathlib.Core.List.{List, [], _∷_, map}
 use lib.Dec.{eqb}
 use lib.ListN.{length, getD, set, take, length-set, length-map}
 use lib.Seq.{getD-set-same, getD-set-other}
-use lib.IntN.{ℤ, pos, negsuc, _+ℤ_, _-ℤ_, negℤ, +ℤ-idr}
+use lib.IntN.{ℤ, pos, _+ℤ_, negℤ, +ℤ-idr}
+use Rattle.std.proofs.shelf.Lists.{getD-map}
 use Rattle.std.proofs.shelf.Signed.{ints}
+use Rattle.std.proofs.shelf.Sums.{sumBy-cons}
 use Rattle.std.proofs.shelf.Tests.{cases-bool, eqb-true, eqb-false}
-use Rattle.std.specs.declared.option.Option.{Option}
-use Rattle.std.specs.declared.option.Option.the-variants.{Some, None}
+use Rattle.std.specs.shelf.Lists.{countBy}
+use Rattle.std.specs.declared.option.Option.the-variants.{None}
 use Rattle.charges.specs.Sums.{total}
-use Rattle.year.specs.Plus.{plus}
 use Rattle.year.specs.Spread.{spread}
-use Rattle.year.specs.Terms.{Terms, count}
+use Rattle.year.specs.Terms.{Terms, count, flag-at, flagged}
 use Rattle.year.specs.Rc.{Rc, RcCall, pay-rc, assess, default, rc-balance, charge-of, minimums, rest, assessment, carrier-weights, passed-on, rc-refusal, rc-effect}
 use Rattle.year.specs.Amounts.{RcAmounts, rc-amounts, Fits, ProductsFit}
 use Rattle.year.proofs.Sums.{length-plus, getD-plus, total-plus, total-set, total-take-le, getD-le-total}
@@ -28,7 +29,7 @@ use Rattle.year.proofs.Passed.{Opens, pay-rc-passed, assess-passed, default-pa
 -- what an accepted call moves on the balance of coordinator k
 abbrev pub rc-move : Terms → ℕ → RcCall → ℤ
 rc-move t k (pay-rc who amount) = own who k (negℤ (pos amount))
-rc-move t k (assess charge minimum) = pos (getD (assessment t charge minimum) k 0)
+rc-move t k (assess charge minimum) = pos (cond (eqb (flag-at t k) 1) minimum (getD (spread (rest t charge minimum) (t .demands)) k 0))
 rc-move t k (default debtor unpaid) = cond (eqb debtor k) (negℤ (pos unpaid)) (pos (getD (spread unpaid (carrier-weights t debtor)) k 0))
 
 -- the balances and the charge are what the amounts say
@@ -78,22 +79,55 @@ module _ (weights rc : List ℕ) (debtor u : ℕ) (long : length rc ≡ length w
 
 -- ---- assessing
 
-module _ (t : Terms) (flags-long : length (t .flags) ≡ count t) where
+total-of-flags : (minimum : ℕ) (flags : List ℕ) → total (map (λ flag. cond (eqb flag 1) minimum 0) flags) ≡ minimum * countBy (λ flag. eqb flag 1) flags
+total-of-flags minimum [] = sym (mul-zero minimum)
+total-of-flags minimum (f ∷ fs) =
+    let r = total-of-flags minimum fs in
+    let s = sumBy-cons (λ flag. cond (eqb flag 1) 1 0) f fs in
+    elim (cases-bool (eqb f 1)) [
+      | inl e ↦ let s′ = rw e at s in rw (e, s′, mul-add, mul-one) (omega arith)
+      | inr e ↦ let s′ = rw e at s in rw (e, s′, mul-add, mul-zero) (omega arith)
+    ]
+
+module _ (t : Terms) (o : Opens t) where
   pub length-minimums : (minimum : ℕ) → length (minimums t minimum) ≡ count t
   unfolding minimums
-  length-minimums minimum = length-map (t .flags) _ ∙ flags-long
+  length-minimums minimum = length-map (t .flags) _ ∙ o .flags-long
+
+  pub total-minimums : (minimum : ℕ) → total (minimums t minimum) ≡ minimum * flagged t
+  unfolding minimums flagged
+  total-minimums minimum = total-of-flags minimum (t .flags)
 
   pub length-assessment : (charge minimum : ℕ) → length (assessment t charge minimum) ≡ count t
   unfolding assessment
   length-assessment charge minimum = length-plus _ _ ∙ length-minimums minimum
 
-  pub total-assessment : (charge minimum : ℕ) → total (minimums t minimum) ≤ charge → (rest t charge minimum ≡ 0) ⊎ (0 < total (t .demands)) → total (assessment t charge minimum) ≡ charge
+  pub total-assessment : (charge minimum : ℕ) → minimum * flagged t ≤ charge → (rest t charge minimum ≡ 0) ⊎ (0 < total (t .demands)) → total (assessment t charge minimum) ≡ charge
   unfolding assessment
   total-assessment charge minimum low can =
       let e : length (minimums t minimum) ≡ length (spread (rest t charge minimum) (t .demands)) = length-minimums minimum ∙ sym (length-spread _ (t .demands)) in
       let s = total-plus (minimums t minimum) (spread (rest t charge minimum) (t .demands)) e in
       let w = whole (rest t charge minimum) (t .demands) can in
+      let m = total-minimums minimum in
       omega arith
+
+  minimum-at : (minimum k : ℕ) → k < count t → getD (minimums t minimum) k 0 ≡ cond (eqb (flag-at t k) 1) minimum 0
+  unfolding minimums
+  minimum-at minimum k w = let w′ : k < length (t .flags) = rw (o .flags-long) w in getD-map (λ flag. cond (eqb flag 1) minimum 0) (t .flags) k 0 0 w′
+
+  -- a flagged coordinator has the minimum, and another its share
+  pub assessment-at : (charge minimum k : ℕ) → k < count t → getD (assessment t charge minimum) k 0 ≡ cond (eqb (flag-at t k) 1) minimum (getD (spread (rest t charge minimum) (t .demands)) k 0)
+  unfolding assessment
+  assessment-at charge minimum k w =
+      let g = getD-plus (minimums t minimum) (spread (rest t charge minimum) (t .demands)) k (length-minimums minimum ∙ sym (length-spread _ (t .demands))) in
+      let m = minimum-at minimum k w in
+      elim (cases-bool (eqb (flag-at t k) 1)) [
+        | inl e ↦
+            let z = weightless (rest t charge minimum) (t .demands) k (o .flagged-demand k w (eqb-true (flag-at t k) 1 e)) in
+            let m′ = rw e at m in
+            rw e (omega arith)
+        | inr e ↦ let m′ = rw e at m in rw e (omega arith)
+      ]
 
   module _ (b : Rc) (long : length (b .balances) ≡ count t) where
     pub weights-long : (debtor : ℕ) → length (b .balances) ≡ length (carrier-weights t debtor)
@@ -111,7 +145,7 @@ module _ (t : Terms) (flags-long : length (t .flags) ≡ count t) where
     pub rc-moves : (k : ℕ) → k < count t → (c : RcCall) → rc-refusal t b c ≡ None → pos (rc-balance (rc-effect t b c) k) ≡ pos (rc-balance b k) +ℤ rc-move t k c
     unfolding rc-effect
     rc-moves k w (pay-rc who amount) ok = take-own (b .balances) who k amount (omega arith) (pay-rc-passed t b who amount ok .1)
-    rc-moves k w (assess charge minimum) ok = ap pos (getD-plus (b .balances) (assessment t charge minimum) k (long ∙ sym (length-assessment charge minimum)))
+    rc-moves k w (assess charge minimum) ok = ap pos (getD-plus (b .balances) (assessment t charge minimum) k (long ∙ sym (length-assessment charge minimum)) ∙ ap (λ n. rc-balance b k + n) (assessment-at charge minimum k w))
     rc-moves k w (default debtor unpaid) ok =
         let q = default-passed t b debtor unpaid ok in
         passed-at (carrier-weights t debtor) (b .balances) debtor unpaid (weights-long debtor) (debtor-out debtor (q .here)) (q .covered) k (omega arith)

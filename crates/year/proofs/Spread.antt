@@ -5,7 +5,7 @@ use native.Mathlib.Nat.{div-mul-le-self, lt-div-mul-add, mul-div-cancel, mul-add
 use native.Mathlib.Numerals.{add-one}
 use mathlib.Core.Path.{_≡_, refl, ap, ap₂, sym, _∙_}
 use mathlib.Core.Logic.{_⊎_, inl, inr}
-use mathlib.Core.List.{List, [], _∷_, map}
+use mathlib.Core.List.{List, map}
 use lib.ListN.{length, getD, take}
 use lib.Seq.{take-all}
 use Rattle.std.specs.Iters.{counting}
@@ -14,7 +14,7 @@ use Rattle.std.proofs.shelf.Counted.{length-map-counting, getD-map-counting}
 use Rattle.std.proofs.shelf.Lists.{getD-past}
 use Rattle.std.proofs.shelf.Tests.{cases-lt}
 use Rattle.charges.specs.Sums.{total}
-use Rattle.year.specs.Spread.{quotient, carried, share, spread, SpreadLaw, SpreadLawForAll}
+use Rattle.year.specs.Spread.{quotient, carried, share, spread, SpreadLawForAll}
 use Rattle.year.proofs.Sums.{total-more, total-more-zero, total-map-more}
 
 -- ---- quotients

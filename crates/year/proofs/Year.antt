@@ -1,21 +1,21 @@
 -- The year law.
-use Prim.Native.Nat.{ℕ, _+_, _≤_, _<_}
+use Prim.Native.Nat.{ℕ, _<_}
 use native.Mathlib.Omega.{arith}
 use mathlib.Core.Path.{_≡_, refl, ap, sym, subst, _∙_}
 use mathlib.Core.List.{List}
-use lib.ListN.{length, getD}
-use lib.IntN.{ℤ, pos, _+ℤ_, _-ℤ_, +ℤ-idl, +ℤ-idr}
+use lib.ListN.{length}
+use lib.IntN.{pos, _+ℤ_, +ℤ-idl, +ℤ-idr}
 use Rattle.std.proofs.shelf.Signed.{ints}
 use Rattle.std.specs.declared.option.Option.the-variants.{None}
-use Rattle.charges.specs.Sums.{total, overZ}
-use Rattle.year.specs.Terms.{Terms, count, open-refusal}
+use Rattle.charges.specs.Sums.{overZ}
+use Rattle.year.specs.Terms.{Terms, count}
 use Rattle.year.specs.Market.{market-balance}
 use Rattle.year.specs.Rc.{RcCall, default, rc-balance}
-use Rattle.year.specs.Book.{Book, Call, of-market, of-rc, opened, refusal, effect, step, run, outcomes, accepted-calls}
+use Rattle.year.specs.Book.{Book, Call, of-market, of-rc, opened, refusal, effect, step, outcomes, accepted-calls}
 use Rattle.year.specs.Balances.{EachBalance, line-in, adjustment-in, market-payment-in, assessed-in, rise-in, unpaid-in, rc-payment-in}
 use Rattle.year.specs.Amounts.{Amounts, no-amounts, amounts-with, amounts-after, Sums, ProductsFit, MarketBounded}
 use Rattle.year.specs.Defaults.{DefaultLaw}
-use Rattle.year.specs.Year.{YearLaw, YearLawForAll, after}
+use Rattle.year.specs.Year.{YearLawForAll, after}
 use Rattle.year.proofs.Passed.{Opens, open-passed}
 use Rattle.year.proofs.Market.{MarketSum, market-long, market-moves, market-sums, market-bounds}
 use Rattle.year.proofs.Rc.{RcAgrees, rc-long, rc-moves, rc-agrees, products-fit}
@@ -43,8 +43,8 @@ sums-of b a g =
     record { market = g .market .sum; rc = omega (arith, ints); at-most-charge = omega arith; charge-bound = g .rc .bound }
 
 module _ (t : Terms) (o : Opens t) where
-  flags-in : (b : Book) → Sound t b → length (b .terms .flags) ≡ count (b .terms)
-  flags-in b p = rw (p .terms) (o .flags-long)
+  opens-in : (b : Book) → Sound t b → Opens (b .terms)
+  opens-in b p = rw (p .terms) o
 
   below-in : (b : Book) (k : ℕ) → Sound t b → k < count t → k < count (b .terms)
   below-in b k p w = rw (p .terms) w
@@ -60,7 +60,7 @@ module _ (t : Terms) (o : Opens t) where
     terms = p .terms;
     market-long = p .market-long;
     market-bounds = p .market-bounds;
-    rc-long = rc-long (b .terms) (flags-in b p) (b .rc) (p .rc-long) c;
+    rc-long = rc-long (b .terms) (opens-in b p) (b .rc) (p .rc-long) c;
   }
 
   start : Sound t (opened t)
@@ -79,7 +79,7 @@ module _ (t : Terms) (o : Opens t) where
   rc-step k w b (of-market c) p e = sym (+ℤ-idr (pos (rc-balance (b .rc) k)))
   rc-step k w b (of-rc c) p e =
       subst (λ s. pos (rc-balance (effect b (of-rc c) .rc) k) ≡ pos (rc-balance (b .rc) k) +ℤ moves-rc s k (of-rc c)) (p .terms)
-      (rc-moves (b .terms) (flags-in b p) (b .rc) (p .rc-long) k (below-in b k p w) c e)
+      (rc-moves (b .terms) (opens-in b p) (b .rc) (p .rc-long) k (below-in b k p w) c e)
 
   pub market-each : (cs : List Call) (k : ℕ) → k < count t → market-balance (after t cs .market) k ≡ overZ (accepted-calls (opened t) cs) (moves-market k)
   market-each cs k w =
@@ -105,7 +105,7 @@ module _ (t : Terms) (o : Opens t) where
   agree-step b a (of-market c) p e g =
       let n : count (b .terms) ≡ count t = ap count (p .terms) in
       record { market = rw (← n) (market-sums (count (b .terms)) (b .market) (p .market-long) (a .market) c e (g .market)); rc = g .rc }
-  agree-step b a (of-rc c) p e g = record { market = g .market; rc = rc-agrees (b .terms) (flags-in b p) (b .rc) (p .rc-long) (a .rc) c e (g .rc) }
+  agree-step b a (of-rc c) p e g = record { market = g .market; rc = rc-agrees (b .terms) (opens-in b p) (b .rc) (p .rc-long) (a .rc) c e (g .rc) }
 
   pub agrees-after : (cs : List Call) → Agrees (after t cs) (amounts-after (count t) no-amounts (accepted-calls (opened t) cs))
   agrees-after cs =

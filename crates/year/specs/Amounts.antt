@@ -5,13 +5,11 @@ use mathlib.Core.Bool.{true}
 use mathlib.Core.List.{List, [], _∷_}
 use lib.IntN.{ℤ, pos, _+ℤ_, _-ℤ_}
 use lib.ListN.{take}
-use Rattle.sheet.specs.Rows.{rows}
 use Rattle.sheet.specs.Questions.{within}
-use Rattle.charges.specs.Rules.{lines}
 use Rattle.charges.specs.Sums.{total, totalZ}
 use Rattle.year.specs.Terms.{Terms}
-use Rattle.year.specs.Market.{Market, MarketCall, post, adjust, pay-market, market-balance}
-use Rattle.year.specs.Rc.{Rc, RcCall, pay-rc, assess, default, rest, carrier-weights}
+use Rattle.year.specs.Market.{Market, MarketCall, post, adjust, pay-market, market-balance, posted-sum}
+use Rattle.year.specs.Rc.{RcCall, pay-rc, assess, default, rest, carrier-weights}
 use Rattle.year.specs.Book.{Book, Call, of-market, of-rc}
 
 -- accepted lines, adjustments and market payments
@@ -35,7 +33,7 @@ no-amounts = record { market = record { lines = 0; adjustments = pos 0; payments
 -- what an accepted call makes of them, in a book of n coordinators
 
 abbrev pub market-amounts : ℕ → MarketAmounts → MarketCall → MarketAmounts
-market-amounts n a (post m day rate sheet) = record { lines = a .lines + total (lines n m rate (rows sheet)); adjustments = a .adjustments; payments = a .payments }
+market-amounts n a (post m day rate sheet) = record { lines = a .lines + posted-sum n m rate sheet; adjustments = a .adjustments; payments = a .payments }
 market-amounts n a (adjust coordinator amount) = record { lines = a .lines; adjustments = a .adjustments +ℤ amount; payments = a .payments }
 market-amounts n a (pay-market coordinator amount) = record { lines = a .lines; adjustments = a .adjustments; payments = a .payments + amount }
 

@@ -1,5 +1,5 @@
 -- What an accepted call means for one coordinator, and each balance as the sum of these.
-use Prim.Native.Nat.{ℕ, _+_, _<_}
+use Prim.Native.Nat.{ℕ, _<_}
 use mathlib.Core.Path.{_≡_}
 use mathlib.Core.Bool.{cond}
 use mathlib.Core.List.{List}
@@ -10,9 +10,9 @@ use Rattle.sheet.specs.Rows.{rows}
 use Rattle.charges.specs.Rules.{line-of}
 use Rattle.charges.specs.Sums.{over, overZ}
 use Rattle.year.specs.Spread.{spread}
-use Rattle.year.specs.Terms.{Terms, count}
+use Rattle.year.specs.Terms.{Terms, count, flag-at}
 use Rattle.year.specs.Market.{market-balance, post, adjust, pay-market}
-use Rattle.year.specs.Rc.{rc-balance, pay-rc, assess, default, assessment, carrier-weights}
+use Rattle.year.specs.Rc.{rc-balance, pay-rc, assess, default, rest, carrier-weights}
 use Rattle.year.specs.Book.{Book, Call, of-market, of-rc}
 
 -- ---- on the market side
@@ -42,7 +42,7 @@ market-payment-in coordinator (of-rc call) = 0
 abbrev pub assessed-in : Terms → ℕ → Call → ℕ
 assessed-in t coordinator (of-market call) = 0
 assessed-in t coordinator (of-rc (pay-rc who amount)) = 0
-assessed-in t coordinator (of-rc (assess charge minimum)) = getD (assessment t charge minimum) coordinator 0
+assessed-in t coordinator (of-rc (assess charge minimum)) = cond (eqb (flag-at t coordinator) 1) minimum (getD (spread (rest t charge minimum) (t .demands)) coordinator 0)
 assessed-in t coordinator (of-rc (default debtor unpaid)) = 0
 
 -- the coordinator's share of another's default

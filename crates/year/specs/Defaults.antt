@@ -4,7 +4,7 @@ use mathlib.Core.Path.{_≡_}
 use mathlib.Core.Logic.{_≢_}
 use mathlib.Core.List.{List, [], _∷_}
 use lib.IntN.{ℤ, pos, _+ℤ_, _-ℤ_, _*ℤ_, negℤ}
-use lib.ListN.{length, getD}
+use lib.ListN.{getD}
 use lib.Signed.{_<ℤ_}
 use Rattle.charges.specs.Sums.{total, totalZ}
 use Rattle.year.specs.Spread.{spread}
@@ -33,7 +33,7 @@ pub record DefaultLaw (t : Terms) (debtor unpaid : ℕ) (before after : List ℕ
   -- the debtor's falls by the unpaid amount
   pub falls : getD (rises after before) debtor (pos 0) ≡ negℤ (pos unpaid)
   -- the others' rises sum to it
-  pub carried : totalZ (others debtor (rises after before)) ≡ pos unpaid
+  pub sum : totalZ (others debtor (rises after before)) ≡ pos unpaid
   pub proportion : (coordinator : ℕ) → coordinator < count t → coordinator ≢ debtor →
       WithinCent unpaid (demand-at t coordinator) (total (others debtor (t .demands))) (getD (rises after before) coordinator (pos 0))
   -- each rise is the share

@@ -1,4 +1,4 @@
--- Worked examples: a new book, calls on it, what becomes of the last one, and the balances that they leave.
+-- Worked examples, in one table: calls on a new book with the balances that they leave, and quotes.
 use Prim.Native.Nat.{ℕ, _*_}
 use mathlib.Core.Path.{_≡_}
 use mathlib.Core.List.{List, [], _∷_}
@@ -8,22 +8,30 @@ use Rattle.std.specs.declared.option.Option.{Option}
 use Rattle.std.specs.declared.option.Option.the-variants.{Some, None}
 use Rattle.std.specs.shelf.Lists.{All}
 use Rattle.questions.specs.Questions.{Refusal, no-at}
+use Rattle.sheet.specs.Questions.{sheet-refusal}
 use Rattle.charges.specs.Rules.{Meaning, meaning}
 use Rattle.year.specs.Terms.{Terms, open-refusal}
 use Rattle.year.specs.Market.{post, adjust, pay-market}
 use Rattle.year.specs.Rc.{pay-rc, assess, default}
 use Rattle.year.specs.Book.{Book, Call, of-market, of-rc, opened, refusal, step, run}
+use Rattle.year.specs.Reading.{quote}
 
--- what the opening and the last call are refused for, and the balances
-pub record Result : Type 0 where
-  pub opening : Option Refusal
-  pub last : Option Refusal
-  pub market : List ℤ
-  pub rc : List ℕ
+-- what is worked out
+pub data Case : Type 0 where
+  -- calls on a new book
+  year : Terms → List Call → Case
+  -- a quote: a rule's meaning, a rate, a sheet and a coordinator
+  quoting : Meaning → ℕ → List ℕ → ℕ → Case
+
+-- what it comes to
+pub data Result : Type 0 where
+  -- what the opening and the last call are refused for, the market and the RC balances
+  leaves : Option Refusal → Option Refusal → List ℤ → List ℕ → Result
+  -- what the sheet is refused for, the charge quantity and the line
+  tells : Option Refusal → ℕ × ℕ → Result
 
 pub record Example : Type 0 where
-  pub terms : Terms
-  pub calls : List Call
+  pub worked : Case
   pub expected : Result
 
 abbrev pub last-refusal : Book → List Call → Option Refusal
@@ -31,27 +39,20 @@ last-refusal b [] = None
 last-refusal b (call ∷ []) = refusal b call
 last-refusal b (call ∷ next ∷ calls) = last-refusal (step b call) (next ∷ calls)
 
-abbrev pub result : Example → Result
-result e = record {
-  opening = open-refusal (e .terms);
-  last = last-refusal (opened (e .terms)) (e .calls);
-  market = run (opened (e .terms)) (e .calls) .market .balances;
-  rc = run (opened (e .terms)) (e .calls) .rc .balances;
-}
-
-abbrev pub expected : Example → Result
-expected e = e .expected
+abbrev pub result : Case → Result
+result (year t calls) = leaves (open-refusal t) (last-refusal (opened t) calls) (run (opened t) calls .market .balances) (run (opened t) calls .rc .balances)
+result (quoting m rate sheet coordinator) = tells (sheet-refusal sheet) (quote m rate sheet coordinator)
 
 abbrev pub Holds : Example → Type 0
-Holds e = result e ≡ expected e
+Holds e = result (e .worked) ≡ e .expected
 
 -- demands and flags, calls, the last one's refusal, market and RC balances
 abbrev pub example : List ℕ → List ℕ → List Call → Option Refusal → List ℤ → List ℕ → Example
-example demands flags calls last market rc = record {
-  terms = record { demands = demands; flags = flags };
-  calls = calls;
-  expected = record { opening = None; last = last; market = market; rc = rc };
-}
+example demands flags calls last market rc = record { worked = year (record { demands = demands; flags = flags }) calls; expected = leaves None last market rc }
+
+-- a rule's meaning, a rate, an accepted sheet, a coordinator, its charge quantity and its line
+abbrev pub quoted : Meaning → ℕ → List ℕ → ℕ → ℕ → ℕ → Example
+quoted m rate sheet coordinator quantity line = record { worked = quoting m rate sheet coordinator; expected = tells None (quantity, line) }
 
 -- ---- the terms and the posts that they share
 
@@ -106,6 +107,9 @@ table =
     ∷ thirds (post-on 1 ∷ post-on 1 ∷ []) (Some (no-at 10 0)) (pos 50 ∷ pos 0 ∷ pos 0 ∷ []) no-rc-balance
     -- an adjustment and a payment
     ∷ thirds (post-on 1 ∷ of-market (adjust 0 (negsuc 9)) ∷ of-market (pay-market 1 5) ∷ []) None (pos 40 ∷ negsuc 4 ∷ pos 0 ∷ []) no-rc-balance
+    -- a quote of the coordinator with the row, and of one without
+    ∷ quoted each-row 5000 one-row 0 100000 50
+    ∷ quoted each-row 5000 one-row 1 0 0
     ∷ []
 
 abbrev pub Examples : Type 0

@@ -7,7 +7,7 @@ use lib.IntN.{ℤ}
 use lib.ListN.{length, getD}
 use Rattle.sheet.specs.Rows.{rows, own-rows}
 use Rattle.charges.specs.Rules.{Meaning}
-use Rattle.year.specs.Market.{MarketCall, post, adjust, pay-market}
+use Rattle.year.specs.Market.{post, adjust, pay-market}
 use Rattle.year.specs.Book.{Call, of-market, of-rc, Outcome, refused, accepted}
 
 -- neither a post nor the coordinator's adjustment or market payment

@@ -11,6 +11,7 @@ use Rattle.questions.specs.Questions.{Refusal, ask, first, in-turn}
 use Rattle.sheet.specs.Rows.{row-count, row-at, rows}
 use Rattle.sheet.specs.Questions.{sheet-refusal, within}
 use Rattle.charges.specs.Rules.{Meaning, line-of, lines}
+use Rattle.charges.specs.Sums.{total}
 use Rattle.year.specs.Plus.{plusZ}
 
 -- each coordinator's balance, in cents, and whether a code is posted for a day
@@ -68,10 +69,15 @@ market-refusal n b (post m day rate sheet) = post-refusal n b m day rate sheet
 market-refusal n b (adjust coordinator amount) = adjust-refusal n b coordinator amount
 market-refusal n b (pay-market coordinator amount) = pay-market-refusal n b coordinator amount
 
+-- what an accepted post answers: the sum of the lines
+abbrev pub posted-sum : ℕ → Meaning → ℕ → List ℕ → ℕ
+posted-sum n m rate sheet = total (lines n m rate (rows sheet))
+
+-- what an accepted call does
+
 abbrev pub marked : (ℕ → ℕ → Bool) → ℕ → ℕ → ℕ → ℕ → Bool
 marked posted code day c d = (eqb c code && eqb d day) || posted c d
 
--- what an accepted call does
 unfoldable pub market-effect : ℕ → Market → MarketCall → Market
 market-effect n b (post m day rate sheet) = record { balances = plusZ (b .balances) (lines n m rate (rows sheet)); posted = marked (b .posted) (m .code) day }
 market-effect n b (adjust coordinator amount) = record { balances = set (b .balances) coordinator (market-balance b coordinator +ℤ amount); posted = b .posted }

@@ -1,5 +1,5 @@
 -- The RC side of the book: its calls, when each is refused, and what an accepted one does.
-use Prim.Native.Nat.{ℕ, _-_}
+use Prim.Native.Nat.{ℕ, _-_, _*_}
 use mathlib.Core.Bool.{Bool, _&&_, _||_, not, cond}
 use mathlib.Core.List.{List, map}
 use lib.Dec.{leb, ltb, eqb}
@@ -11,7 +11,7 @@ use Rattle.questions.specs.Questions.{Refusal, ask}
 use Rattle.charges.specs.Sums.{total}
 use Rattle.year.specs.Plus.{plus}
 use Rattle.year.specs.Spread.{spread}
-use Rattle.year.specs.Terms.{Terms, count}
+use Rattle.year.specs.Terms.{Terms, count, flagged}
 
 -- each coordinator's balance, in cents, and the charge once it is assessed
 pub record Rc : Type 0 where
@@ -38,9 +38,9 @@ pub data RcCall : Type 0 where
 unfoldable pub minimums : Terms → ℕ → List ℕ
 minimums t minimum = map (λ flag. cond (eqb flag 1) minimum 0) (t .flags)
 
--- what is left to spread
+-- what the minimums leave to spread
 abbrev pub rest : Terms → ℕ → ℕ → ℕ
-rest t charge minimum = charge - total (minimums t minimum)
+rest t charge minimum = charge - minimum * flagged t
 
 -- what assessing charges each coordinator
 unfoldable pub assessment : Terms → ℕ → ℕ → List ℕ
@@ -63,7 +63,7 @@ pay-rc-refusal t b coordinator amount =
 unfoldable pub assess-refusal : Terms → Rc → ℕ → ℕ → Option Refusal
 assess-refusal t b charge minimum =
     ask (not (isSome (b .charge))) 15 0
-    (ask (leb charge 2000000000 && leb minimum 2000000000 && leb (total (minimums t minimum)) charge) 16 0
+    (ask (leb charge 2000000000 && leb minimum 2000000000 && leb (minimum * flagged t) charge) 16 0
     (ask (spreadable (rest t charge minimum) (t .demands)) 17 0 None))
 
 unfoldable pub default-refusal : Terms → Rc → ℕ → ℕ → Option Refusal

@@ -8,7 +8,7 @@ use Rattle.std.specs.declared.option.Option.the-variants.{None}
 use Rattle.questions.specs.Questions.{Refusal, ask, first}
 use Rattle.sheet.specs.Rows.{rows, own-rows}
 use Rattle.sheet.specs.Questions.{sheet-refusal}
-use Rattle.charges.specs.Rules.{Meaning, quantity-of, line-of, lines}
+use Rattle.charges.specs.Rules.{Meaning, quantity-of, line-of}
 use Rattle.charges.specs.Sums.{total, totalZ}
 use Rattle.year.specs.Terms.{count}
 use Rattle.year.specs.Market.{market-balance, coordinators-refusal}
@@ -25,10 +25,6 @@ quote-refusal b rate sheet coordinator =
 -- the coordinator's charge quantity and its line
 abbrev pub quote : Meaning → ℕ → List ℕ → ℕ → ℕ × ℕ
 quote m rate sheet coordinator = (quantity-of m coordinator (own-rows coordinator (rows sheet)), line-of m rate (rows sheet) coordinator)
-
--- what an accepted post answers: the sum of the lines
-abbrev pub posted-sum : Book → Meaning → ℕ → List ℕ → ℕ
-posted-sum b m rate sheet = total (lines (count (b .terms)) m rate (rows sheet))
 
 unfoldable pub balances-refusal : Book → ℕ → Option Refusal
 balances-refusal b coordinator = ask (ltb coordinator (count (b .terms))) 12 0 None

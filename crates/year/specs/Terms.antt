@@ -6,6 +6,7 @@ use lib.Dec.{leb, eqb}
 use lib.ListN.{length, getD}
 use Rattle.std.specs.declared.option.Option.{Option}
 use Rattle.std.specs.declared.option.Option.the-variants.{None}
+use Rattle.std.specs.shelf.Lists.{countBy}
 use Rattle.questions.specs.Questions.{Refusal, ask, in-turn}
 
 -- the demands and the flags of the coordinators; flag 1 marks a transmission operator without load
@@ -21,6 +22,10 @@ demand-at t coordinator = getD (t .demands) coordinator 0
 
 abbrev pub flag-at : Terms → ℕ → ℕ
 flag-at t coordinator = getD (t .flags) coordinator 0
+
+-- how many coordinators are flagged
+unfoldable pub flagged : Terms → ℕ
+flagged t = countBy (λ flag. eqb flag 1) (t .flags)
 
 unfoldable pub coordinator-refusal : Terms → ℕ → Option Refusal
 coordinator-refusal t coordinator =

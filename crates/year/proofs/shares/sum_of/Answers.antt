@@ -1,7 +1,6 @@
 use native.Mathlib.Omega.{arith}
-use native.Mathlib.Numerals.{add-one}
 use Prim.Native.Nat.{_+_}
-use mathlib.Core.Path.{_≡_, ap, _∙_}
+use mathlib.Core.Path.{ap, _∙_}
 use lib.Seq.{take-all}
 use borrow.Author.Needs.{needs}
 use Rattle.charges.specs.Sums.{total}
