@@ -79,7 +79,7 @@ module _ (weights rc : List ℕ) (debtor u : ℕ) (long : length rc ≡ length w
 
 -- ---- assessing
 
-total-of-flags : (minimum : ℕ) (flags : List ℕ) → total (map (λ flag. cond (eqb flag 1) minimum 0) flags) ≡ minimum * countBy (λ flag. eqb flag 1) flags
+pub total-of-flags : (minimum : ℕ) (flags : List ℕ) → total (map (λ flag. cond (eqb flag 1) minimum 0) flags) ≡ minimum * countBy (λ flag. eqb flag 1) flags
 total-of-flags minimum [] = sym (mul-zero minimum)
 total-of-flags minimum (f ∷ fs) =
     let r = total-of-flags minimum fs in

@@ -1,3 +1,4 @@
+pub mod Assessing
 pub mod Moves
 pub mod Opening
 pub mod Raised

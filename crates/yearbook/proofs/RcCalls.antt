@@ -21,6 +21,7 @@ use Rattle.year.specs.Rc.{Rc, rc-balance, charge-of, pay-rc, default, carrier-w
 use Rattle.year.specs.Book.{Book, of-rc}
 use Rattle.year.proofs.Sums.{total-set, getD-le-total}
 use Rattle.year.proofs.Spread.{spread-law, length-spread}
+use Rattle.year.proofs.Passed.{spreadable-cases}
 use Rattle.year.proofs.Rc.{total-passed}
 use Rattle.yearbook.specs.declared.account.Account.{Account}
 use Rattle.yearbook.specs.declared.book.YearBook.{YearBook}
@@ -118,15 +119,16 @@ module _ (s : YearBook) (wide : length (s .demands) ≡ 64) (k a : ℕ) where
       default-14 l = taken-refused b (of-rc (default k a)) tt _ (ask-yes 12 0 _ (in-count s wide k h) ∙ ask-yes 13 0 _ fits ∙ ask-no 14 0 _ (uncovered h l))
 
       module _ (l : a ≤ getD t k empty-account .rc) where
-        pub default-17 : total weights ≡ 0 → Done b (of-rc (default k a)) b (Err (no-at 17 0))
+        pub default-17 : spreadable a weights ≡ false → Done b (of-rc (default k a)) b (Err (no-at 17 0))
         unfolding default-refusal
-        default-17 z = taken-refused b (of-rc (default k a)) tt _ (ask-yes 12 0 _ (in-count s wide k h) ∙ ask-yes 13 0 _ fits ∙ ask-yes 14 0 _ (covered h l) ∙ ask-no 17 0 _ none-carries)
-          where
-            none-carries : spreadable a weights ≡ false
-            none-carries = let m = some in rw (ne-eqb a 0 (λ q. omega arith), le-ltb 0 (total weights) (omega arith))
+        default-17 z = taken-refused b (of-rc (default k a)) tt _ (ask-yes 12 0 _ (in-count s wide k h) ∙ ask-yes 13 0 _ fits ∙ ask-yes 14 0 _ (covered h l)
+            ∙ ask-no 17 0 _ z)
 
-        module _ (p : 0 < total weights) (t₁ t₂ : List Account) (shares : List ℕ) (paid : t₁ ≡ set t k (rc-paid (getD t k empty-account) a))
+        module _ (carries : spreadable a weights ≡ true) (t₁ t₂ : List Account) (shares : List ℕ) (paid : t₁ ≡ set t k (rc-paid (getD t k empty-account) a))
             (given : shares ≡ spread a weights) (raised : t₂ ≡ each-with rc-raised t₁ shares) where
+          p : 0 < total weights
+          p = let m = some in elim (spreadable-cases a weights carries) [ inl z ↦ absurd (omega arith) | inr w ↦ w ]
+
           markets-are : markets n t₂ ≡ markets n t
           markets-are = ap (markets n) raised ∙ markets-rc-raised n t₁ shares ∙ ap (markets n) paid ∙ markets-kept n t (fit s wide) k (rc-paid (getD t k empty-account) a) h refl
 
@@ -134,10 +136,6 @@ module _ (s : YearBook) (wide : length (s .demands) ≡ 64) (k a : ℕ) where
           unfolding passed-on
           rcs-are = ap (rcs n) raised ∙ rcs-raised n t₁ shares
               ∙ ap₂ plus (ap (rcs n) paid ∙ rcs-set n t k (rc-paid (getD t k empty-account) a) ∙ ap (λ x. set (rcs n t) k (x - a)) (sym (rc-is s wide k h))) given
-
-          carries : spreadable a weights ≡ true
-          unfolding spreadable
-          carries = let m = some in rw (ne-eqb a 0 (λ q. omega arith), lt-ltb 0 (total weights) p)
 
           pub default-done : Done b (of-rc (default k a)) (view n t₂ (s .demands) (s .flags) (s .posted) (s .charge)) (Ok tt)
           unfolding default-refusal rc-effect
@@ -171,5 +169,5 @@ module _ (s : YearBook) (wide : length (s .demands) ≡ 64) (k a : ℕ) where
               let o = rcs-paid n t t₁ k a _ (s .few) (s .whole) h paid (s .owed) in
               let li = s .limited in
               let sp = ap total given ∙ spread-law a weights .whole (inr p) in
-              let q = leb-true a 2000000000 (and-parts _ _ fits .1) in
+              let q : a ≤ 2000000000 = leb-true a 2000000000 (and-parts (leb 1 a) (leb a 2000000000) fits .1) in
               (omega arith, λ j w. omega (arith, rc-low n t₁ (charge-of (s .charge)) (omega arith) o j (omega arith)), omega arith)

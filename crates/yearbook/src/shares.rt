@@ -6,8 +6,34 @@ ghost use lib.Dec.{eqb};
 ghost use Prim.Native.Nat.{_≤_};
 ghost use lib.ListN.{length, take};
 ghost use Rattle.charges.specs.Sums.{total};
+ghost use Rattle.std.specs.shelf.Lists.{countBy};
+ghost use Rattle.year.specs.Rc.{spreadable};
 ghost use Rattle.year.specs.Spread.{spread};
 use year::shares::spread_over;
+use year::shares::total_demand;
+
+// How many coordinators are flagged.
+pub fn count_flagged(flags: &[u8]) -> u64
+    requires { ⌜ length (now flags) ≤ 64 ⌝ }
+    ensures value { λ r. ⌜ r ≡ countBy (λ flag. eqb flag 1) (now (flags .entry)) ⌝ }
+    ensures few { λ r. ⌜ r ≤ 64 ⌝ }
+{
+    let mut flagged = 0;
+    for flag in flags {
+        if *flag == 1 {
+            flagged += 1;
+        }
+    }
+    flagged
+}
+
+// Is the amount zero, or is there demand to carry it?
+pub fn can_spread(amount: u64, demands: &[u32]) -> bool
+    requires { ⌜ total (now demands) ≤ 3200000000 ⌝ }
+    ensures { λ r. ⌜ r ≡ spreadable amount (now (demands .entry)) ⌝ }
+{
+    amount == 0 || total_demand(demands) > 0
+}
 
 // The minimum of each flagged coordinator, and zero for the others.
 pub fn minimums_of(flags: &[u8], minimum: u64) -> [u64; 64]

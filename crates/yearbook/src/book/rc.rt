@@ -1,18 +1,20 @@
 // The RC charge: assessing it, paying it, and defaults on it.
 ghost use mathlib.Core.Path.{_≡_};
-ghost use Rattle.questions.specs.Questions.{told};
-ghost use Rattle.year.specs.Book.{of-rc};
+ghost use Rattle.std.specs.declared.option.Option.the-variants.{None};
+ghost use Rattle.questions.specs.Questions.{acceptance, told};
+ghost use Rattle.year.specs.Book.{effect, of-rc, refusal};
 ghost use Rattle.year.specs.Rc.{assess as assessing, default, pay-rc};
 ghost use Rattle.yearbook.specs.Faults.{book-fault};
 ghost use Rattle.yearbook.specs.Taken.{Done};
 ghost use Rattle.yearbook.specs.View.{book-of};
 use super::YearBook;
 use crate::fault::BookFault;
+use crate::shares::can_spread;
+use crate::shares::count_flagged;
 use crate::shares::minimums_of;
 use crate::shares::shares_of;
 use crate::tests::between;
-use year::shares::sum_of;
-use year::shares::total_demand;
+use crate::tests::charge_in_range;
 
 const MOST_PAYMENT: u64 = 1_000_000_000_000;
 
@@ -52,12 +54,53 @@ impl YearBook {
         }
         let mut weights = self.demands;
         weights[debtor] = 0;
-        if total_demand(&weights[0..n]) == 0 {
+        if !can_spread(unpaid, &weights[0..n]) {
             return Err(BookFault::NoCarrier);
         }
         let shares = shares_of(unpaid, &weights[0..n]);
         self.accounts.pay_rc(debtor, unpaid);
         self.accounts.raise_rc(&shares[0..n]);
+        Ok(())
+    }
+
+    // Questions 15, 16 and 17 of an assessment.
+    fn check_assess(&self, charge: u64, minimum: u64) -> Result<(), BookFault>
+        ensures { λ r. ⌜ told book-fault r ≡ acceptance (refusal (book-of (now (self .entry))) (of-rc (assessing charge minimum))) ⌝ }
+    {
+        if self.charge.is_some() {
+            return Err(BookFault::Assessed);
+        }
+        let n = self.count;
+        let flagged = count_flagged(&self.flags[0..n]);
+        if !charge_in_range(charge, minimum, flagged) {
+            return Err(BookFault::Charge);
+        }
+        if !can_spread(charge - minimum * flagged, &self.demands[0..n]) {
+            return Err(BookFault::NoCarrier);
+        }
+        Ok(())
+    }
+
+    // Charges the minimums, and spreads the rest over the demands.
+    fn charge_all(&mut self, charge: u64, minimum: u64)
+        requires { ⌜ refusal (book-of (now self)) (of-rc (assessing charge minimum)) ≡ None ⌝ }
+        ensures { λ _. ⌜ book-of (now (self .exit)) ≡ effect (book-of (now (self .entry))) (of-rc (assessing charge minimum)) ⌝ }
+    {
+        let n = self.count;
+        let minimums = minimums_of(&self.flags[0..n], minimum);
+        let rest = charge - minimum * count_flagged(&self.flags[0..n]);
+        let shares = shares_of(rest, &self.demands[0..n]);
+        self.accounts.raise_rc(&minimums[0..n]);
+        self.accounts.raise_rc(&shares[0..n]);
+        self.charge = Some(charge);
+    }
+
+    // Charges each flagged coordinator the minimum, and spreads the rest over the demands.
+    pub fn assess(&mut self, charge: u64, minimum: u64) -> Result<(), BookFault>
+        ensures { λ r. ⌜ Done (book-of (now (self .entry))) (of-rc (assessing charge minimum)) (book-of (now (self .exit))) (told book-fault r) ⌝ }
+    {
+        self.check_assess(charge, minimum)?;
+        self.charge_all(charge, minimum);
         Ok(())
     }
 }

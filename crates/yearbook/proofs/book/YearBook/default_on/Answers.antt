@@ -5,7 +5,7 @@ use lib.ListN.{length, set, take}
 use borrow.Author.Needs.{needs}
 use Rattle.std.proofs.shelf.Tests.{and-parts, leb-true}
 use Rattle.charges.specs.Sums.{total}
-use Rattle.year.specs.Rc.{carrier-weights}
+use Rattle.year.specs.Rc.{spreadable}
 use Rattle.year.specs.Spread.{spread}
 use Rattle.yearbook.specs.View.{book-of}
 use Rattle.yearbook.proofs.Sides.{front-of}
@@ -30,21 +30,20 @@ returns-then-unpaid-self c =
     let wide : length (s .demands) ≡ 64 = search needs in
     default-14 s wide (c .args .debtor) (c .args .unpaid) (omega arith) (sym (c .if-not-between .ensures tt)) (omega arith)
 
-pub total-demand-requires : need.total-demand-requires
-total-demand-requires c κs =
+pub can-spread-requires : need.can-spread-requires
+can-spread-requires c κs =
     let s = c .args .self .now in
     let wide : length (s .demands) ≡ 64 = search needs in
     let e = ap total (weights-are s wide (c .args .debtor) (c .args .unpaid)) in
     let l = weights-light s wide (c .args .debtor) (c .args .unpaid) in
     omega arith
 
-pub returns-then-total-demand-eq0 : need.returns-then-total-demand-eq0
-returns-then-total-demand-eq0 c =
+pub returns-then-not-can-spread : need.returns-then-not-can-spread
+returns-then-not-can-spread c =
     let s = c .args .self .now in
     let wide : length (s .demands) ≡ 64 = search needs in
-    let e = ap total (weights-are s wide (c .args .debtor) (c .args .unpaid)) in
-    let z = c .total-demand .ensures in
-    default-17 s wide (c .args .debtor) (c .args .unpaid) (omega arith) (sym (c .if-not-between .ensures tt)) (omega arith) (omega arith)
+    let e = weights-are s wide (c .args .debtor) (c .args .unpaid) in
+    default-17 s wide (c .args .debtor) (c .args .unpaid) (omega arith) (sym (c .if-not-between .ensures tt)) (omega arith) (ap (spreadable (c .args .unpaid)) (sym e) ∙ sym (c .if-not-can-spread .ensures tt))
 
 pub shares-of-shares-requires : need.shares-of-shares-requires
 shares-of-shares-requires c κs =
@@ -61,10 +60,36 @@ shares-of-shares-requires c κs =
     }
 
 pub raise-rc-requires : need.raise-rc-requires
-raise-rc-requires c κs = ?
+raise-rc-requires c κs =
+    let s = c .args .self .now in
+    let wide : length (s .demands) ≡ 64 = search needs in
+    let d = c .args .debtor in
+    let u = c .args .unpaid in
+    let e = weights-are s wide d u in
+    let carries = ap (spreadable u) (sym e) ∙ sym (c .if-not-can-spread .ensures tt) in
+    let given = front-of (s .count) _ (c .shares-of-shares .result) _ (ap length e ∙ weights-long s wide d u) (c .shares-of-shares .ensures .value) ∙ ap (spread u) e in
+    let r = default-room s wide d u (omega arith) (sym (c .if-not-between .ensures tt)) (omega arith) carries _ _ _ (c .pay-rc .ensures) given refl in
+    record { few = r .0; low = r .1; small = r .2 }
 
 pub ghost-self : need.ghost-self
-ghost-self c = ?
+ghost-self c =
+    let s = c .args .self .now in
+    let wide : length (s .demands) ≡ 64 = search needs in
+    let d = c .args .debtor in
+    let u = c .args .unpaid in
+    let e = weights-are s wide d u in
+    let carries = ap (spreadable u) (sym e) ∙ sym (c .if-not-can-spread .ensures tt) in
+    let given = front-of (s .count) _ (c .shares-of-shares .result) _ (ap length e ∙ weights-long s wide d u) (c .shares-of-shares .ensures .value) ∙ ap (spread u) e in
+    let r = default-keeps s wide d u (omega arith) (sym (c .if-not-between .ensures tt)) (omega arith) carries _ _ _ (c .pay-rc .ensures) given (c .raise-rc .ensures) in
+    (r .0, (s .few, (r .1, (r .2, (s .limited, (s .light, tt))))))
 
 pub returns : need.returns
-returns c = ?
+returns c =
+    let s = c .args .self .now in
+    let wide : length (s .demands) ≡ 64 = search needs in
+    let d = c .args .debtor in
+    let u = c .args .unpaid in
+    let e = weights-are s wide d u in
+    let carries = ap (spreadable u) (sym e) ∙ sym (c .if-not-can-spread .ensures tt) in
+    let given = front-of (s .count) _ (c .shares-of-shares .result) _ (ap length e ∙ weights-long s wide d u) (c .shares-of-shares .ensures .value) ∙ ap (spread u) e in
+    default-done s wide d u (omega arith) (sym (c .if-not-between .ensures tt)) (omega arith) carries _ _ _ (c .pay-rc .ensures) given (c .raise-rc .ensures)
