@@ -1,0 +1,12 @@
+pub mod BidSegmentFacts
+pub mod Grouping
+pub mod MarketServicesFacts
+pub mod Order
+pub mod Reached
+pub mod Runs
+pub mod Sizes
+pub mod Splits
+pub mod Sums
+pub mod SystemOperationsFacts
+pub mod TorFacts
+pub mod TradeFeeFacts

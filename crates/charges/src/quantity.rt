@@ -1,0 +1,1 @@
+// What a rule bills a coordinator: the quantity over its resources, and the line at a rate.
