@@ -47,8 +47,16 @@ no-segments = refl
 
 pub bid-figures-bounded : FiguresBounded bid-figures 4
 bid-figures-bounded rs h =
-    omega (arith, bid-run rs, segments-le (count (nonzero (only 30)) rs) (count (nonzero (only 31)) rs), segments-le (count (nonzero (only 32)) rs) (count (nonzero (only 33)) rs),
-    count-low (nonzero (only 30)) rs, count-low (nonzero (only 31)) rs, count-low (nonzero (only 32)) rs, count-low (nonzero (only 33)) rs)
+    omega (
+      arith,
+      bid-run rs,
+      segments-le (count (nonzero (only 30)) rs) (count (nonzero (only 31)) rs),
+      segments-le (count (nonzero (only 32)) rs) (count (nonzero (only 33)) rs),
+      count-low (nonzero (only 30)) rs,
+      count-low (nonzero (only 31)) rs,
+      count-low (nonzero (only 32)) rs,
+      count-low (nonzero (only 33)) rs,
+    )
 
 module _ (n : ℕ) (a : HourBids) (h : Reached bid-figures n a) where
   one : (kind : ℕ) (part : HourBids → ℕ) → ((rs : List Row) → part (folded (bid-figures .add) (bid-figures .start) rs) ≡ folded (counting-rows (nonzero (only kind)) .add) 0 rs) → part a ≤ n

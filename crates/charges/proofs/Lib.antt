@@ -1,5 +1,7 @@
 pub mod BidSegmentFacts
+pub mod Examples
 pub mod Grouping
+pub mod Laws
 pub mod MarketServicesFacts
 pub mod Order
 pub mod Reached
@@ -10,3 +12,4 @@ pub mod Sums
 pub mod SystemOperationsFacts
 pub mod TorFacts
 pub mod TradeFeeFacts
+pub mod Walks
