@@ -1,20 +1,19 @@
 -- Rows that rise by a field: figures taken group by group come to the sum over all groups.
-use Prim.Native.Nat.{ℕ, zero, suc, _+_, _-_, _*_, _≤_, _<_}
+use Prim.Native.Nat.{ℕ, _+_, _-_, _≤_, _<_}
 use native.Mathlib.Omega.{arith}
-use mathlib.Core.Path.{_≡_, refl, ap, ap₂, sym, subst, _∙_}
-use mathlib.Core.Logic.{_⊎_, inl, inr, _≢_}
+use mathlib.Core.Path.{_≡_, refl, ap, ap₂, sym, _∙_}
+use mathlib.Core.Logic.{inl, inr}
 use mathlib.Core.Bool.{Bool, true, false, cond}
 use mathlib.Core.List.{List, [], _∷_}
 use lib.Dec.{eqb}
 use Rattle.std.specs.Iters.{counting}
-use Rattle.std.specs.shelf.Lists.{kept-by, folded, All}
+use Rattle.std.specs.shelf.Lists.{folded, All}
 use Rattle.std.proofs.shelf.Elements.{all-weaker}
-use Rattle.std.proofs.shelf.Tests.{cases-eq, cases-bool, eq-eqb, ne-eqb}
+use Rattle.std.proofs.shelf.Tests.{cases-eq, eq-eqb, ne-eqb}
 use Rattle.sheet.specs.declared.row.Row.{Row}
 use Rattle.charges.specs.Sums.{over}
 use Rattle.charges.specs.Charges.{at}
 use Rattle.charges.specs.Running.{Running, run, grouped}
-use Rattle.charges.specs.declared.group.Group.{Group}
 use Rattle.charges.proofs.Order.{Pairwise}
 use Rattle.charges.proofs.Sums.{over-change, over-none, over-same-from}
 

@@ -4,6 +4,7 @@ pub mod Grouping
 pub mod Laws
 pub mod MarketServicesFacts
 pub mod Order
+pub mod Quantities
 pub mod Reached
 pub mod Runs
 pub mod Sizes

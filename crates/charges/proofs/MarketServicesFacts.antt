@@ -9,7 +9,7 @@ use lib.ListN.{length}
 use lib.IntN.{ℤ, pos, natAbs, _+ℤ_}
 use mir.Syntax.{w64}
 use mir.Val.{SFits, toZ, ofZ}
-use Rattle.std.specs.shelf.Lists.{folded, All}
+use Rattle.std.specs.shelf.Lists.{folded}
 use Rattle.std.proofs.shelf.Tests.{ne-eqb, le-leb}
 use Rattle.sheet.specs.declared.row.Row.{Row}
 use Rattle.sheet.specs.Sheets.{OfPair, PairRows, Passes}

@@ -2,11 +2,10 @@
 use Prim.Native.Nat.{ℕ, _+_, _*_, _≤_, _<_}
 use native.Mathlib.Omega.{arith}
 use mathlib.Core.Path.{_≡_, refl, ap, sym, subst, _∙_}
-use mathlib.Core.Bool.{Bool, true, false, cond, _&&_}
+use mathlib.Core.Bool.{Bool, true, false, cond}
 use mathlib.Core.List.{List, [], _∷_, _++_, append-nil}
-use lib.Dec.{eqb}
 use lib.ListN.{length, getD, take}
-use Rattle.std.specs.shelf.Lists.{All, kept-by}
+use Rattle.std.specs.shelf.Lists.{All}
 use Rattle.std.proofs.shelf.Lists.{take-all, length-take-le}
 use Rattle.std.proofs.shelf.Elements.{kept-by-more, all-kept-by, all-take}
 use Rattle.std.proofs.shelf.Sums.{folded-push, length-kept-by, countBy-le-length}
@@ -16,7 +15,6 @@ use Rattle.sheet.specs.Questions.{Accepted}
 use Rattle.sheet.specs.Sheets.{Passes}
 use Rattle.sheet.proofs.Accepted.{few-rows}
 use Rattle.sheet.proofs.Pairs.{length-rows, row-by-place, no-row, rows-pass, of-pair, pair-kept}
-use Rattle.charges.specs.Laws.{PartIsByte}
 use Rattle.charges.specs.Running.{Running, after, run, Reached, walk-at}
 use Rattle.charges.specs.declared.walk.Walk.{Walk}
 use Rattle.charges.proofs.Reached.{FiguresBounded, reached-low}

@@ -1,14 +1,14 @@
 // Charge rules: what a rule means, the walk over a pair's rows, the five charges, and what a rule bills a coordinator.
-mod bid_segment;
-mod figures;
-mod group;
-mod market_services;
-mod quantity;
-mod rule;
-mod system_operations;
-mod tor;
-mod trade_fee;
-mod walk;
+pub mod bid_segment;
+pub mod figures;
+pub mod group;
+pub mod market_services;
+pub mod quantity;
+pub mod rule;
+pub mod system_operations;
+pub mod tor;
+pub mod trade_fee;
+pub mod walk;
 
 ghost use Rattle.charges.specs.Examples.{Holds, examples};
 ghost use Rattle.charges.specs.Laws.{ChargesBounded, FiguresArrive};

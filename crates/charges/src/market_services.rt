@@ -1,5 +1,4 @@
 // Market Services: the energy of each hour's intervals, less its TOR balance, and its awards.
-ghost use mathlib.Core.Path.{_≡_};
 ghost use Rattle.charges.specs.Charges.{market-services};
 ghost use Rattle.charges.specs.Running.{balance-figures, energy-figures, hour-figures};
 use crate::figures::Figures;

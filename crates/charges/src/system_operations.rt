@@ -1,5 +1,4 @@
 // System Operations: metered energy less TOR balance, by hour, interval and part.
-ghost use mathlib.Core.Path.{_≡_};
 ghost use Rattle.charges.specs.Charges.{system-operations};
 ghost use Rattle.charges.specs.Running.{meter-figures};
 use crate::figures::Figures;

@@ -1,5 +1,4 @@
 // TOR: the smaller of supply and demand. A coordinator's TOR rows stand under resource 0.
-ghost use mathlib.Core.Path.{_≡_};
 ghost use Rattle.charges.specs.Charges.{tor};
 ghost use Rattle.charges.specs.Running.{tor-figures};
 use crate::figures::Figures;

@@ -1,5 +1,4 @@
 // The trade fee: each row of kind 40 is one trade side, at any quantity.
-ghost use mathlib.Core.Path.{_≡_};
 ghost use Rattle.charges.specs.Charges.{trade-fee};
 ghost use Rattle.charges.specs.Running.{trade-figures};
 use crate::figures::Figures;

@@ -1,5 +1,5 @@
 // The walk over a pair's rows, for any figures.
-ghost use Prim.Native.Nat.{ℕ, _+_, _<_};
+ghost use Prim.Native.Nat.{_+_, _<_};
 ghost use mathlib.Core.List.{List};
 ghost use mathlib.Core.Path.{_≡_};
 ghost use Rattle.charges.specs.Laws.{PartIsByte};

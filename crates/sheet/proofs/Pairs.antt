@@ -1,9 +1,9 @@
 -- The rows of an accepted sheet, and a pair's among them.
 use mathlib.Core.Path.{_≡_, refl, ap, sym, subst, subst₂, _∙_}
-use mathlib.Core.Bool.{Bool, true, false, cond, _&&_, _||_}
+use mathlib.Core.Bool.{Bool, true, false, cond, _&&_}
 use mathlib.Core.List.{List, [], _∷_}
 use mathlib.Core.Logic.{_⊎_, inl, inr}
-use Prim.Native.Nat.{ℕ, zero, suc, _+_, _<_, _≤_}
+use Prim.Native.Nat.{ℕ, suc, _+_, _<_, _≤_}
 use native.Mathlib.Numerals.{add-one}
 use native.Mathlib.Nat.{zero-add}
 use native.Mathlib.Omega.{arith}
@@ -19,7 +19,7 @@ use Rattle.std.proofs.shelf.Ways.{tells}
 use Rattle.sheet.specs.declared.row.Key.{Key}
 use Rattle.sheet.specs.declared.row.Row.{Row}
 use Rattle.sheet.specs.Rows.{row-count, row-at, rows, own-rows, resource-rows, pair-rows}
-use Rattle.sheet.specs.Questions.{below, key-bytes, in-range, known-kind, Accepted}
+use Rattle.sheet.specs.Questions.{below, key-bytes, in-range, Accepted}
 use Rattle.sheet.specs.Sheets.{Ascending, Passes, OfPair, PairRows}
 use Rattle.sheet.proofs.Accepted.{few-rows, key-above, row-passes}
 

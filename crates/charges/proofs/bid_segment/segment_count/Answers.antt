@@ -1,4 +1,3 @@
-use native.Mathlib.Omega.{arith}
 use borrow.Author.Needs.{needs}
 use Rattle.charges.specs.Charges.{segments}
 use Rattle.charges.proofs.bid_segment.segment_count.Needs as need

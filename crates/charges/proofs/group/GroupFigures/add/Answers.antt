@@ -1,6 +1,5 @@
 use native.Mathlib.Omega.{arith}
 use borrow.Author.Needs.{needs}
-use Prim.Native.Nat.{_+_, _≤_, _*_}
 use Rattle.charges.proofs.Splits.{split-reached, inside-reached, total-low}
 use Rattle.charges.proofs.Reached.{reached-more, reached-start}
 use mathlib.Core.Path.{ap, sym, subst, _∙_}

@@ -1,6 +1,4 @@
-use native.Mathlib.Omega.{arith}
 use borrow.Author.Needs.{needs}
-use Prim.Native.Nat.{_+_, _≤_, _*_}
 use Rattle.charges.proofs.Splits.{split-reached, inside-reached, total-low}
 use Rattle.charges.proofs.group.GroupFigures.total.Needs as need
 

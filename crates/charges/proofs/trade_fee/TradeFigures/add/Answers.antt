@@ -1,4 +1,3 @@
-use native.Mathlib.Omega.{arith}
 use borrow.Author.Needs.{needs}
 use Rattle.charges.specs.Running.{trade-figures}
 use Rattle.charges.proofs.TradeFeeFacts.{trade-figures-bounded}

@@ -1,5 +1,5 @@
 use native.Mathlib.Omega.{arith}
-use mathlib.Core.Path.{_≡_, ap, subst}
+use mathlib.Core.Path.{ap, subst}
 use Prim.Native.Nat.{_≤_}
 use Rattle.std.proofs.shelf.Ways.{tells}
 use Rattle.sheet.proofs.Accepted.{few-rows}
