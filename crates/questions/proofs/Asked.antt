@@ -99,3 +99,13 @@ ask-yes q p rest e = rw e
 pub ask-no : {yes-to : Bool} (q p : ℕ) (rest : Option Refusal) → yes-to ≡ false → ask yes-to q p rest ≡ Some (no-at q p)
 unfolding ask
 ask-no q p rest e = rw e
+
+pub turn-none : (asked : ℕ → Option Refusal) → in-turn 0 asked ≡ None
+unfolding in-turn
+turn-none asked = refl
+
+pub refused-answer : {T : Type 0} (o : Option Refusal) (value : T) (r : Refusal) → o ≡ Some r → Err r ≡ answer o value
+refused-answer o value r e = rw e
+
+pub accepted-answer : {T : Type 0} (o : Option Refusal) (value x : T) → o ≡ None → x ≡ value → Ok x ≡ answer o value
+accepted-answer o value x e is = rw (e, is)

@@ -1,6 +1,7 @@
 pub mod Assessing
 pub mod Moves
 pub mod Opening
+pub mod Posting
 pub mod Raised
 pub mod RcCalls
 pub mod Sides

@@ -29,24 +29,24 @@ use Rattle.yearbook.proofs.Sides.{markets-set, rcs-kept}
 use Rattle.yearbook.proofs.Taken.{taken-refused, taken-last}
 use Rattle.yearbook.proofs.Views.{book-with, fit, in-count, past-count, market-is}
 
+pub refused-at : (k : ℕ) (z : ℤ) → within 1000000000000000 z ≡ false → balance-refusal k z ≡ Some (no-at 11 k)
+unfolding balance-refusal
+refused-at k z out = ask-no 11 k _ out
+
+pub passed-at : (k : ℕ) (z : ℤ) → within 1000000000000000 z ≡ true → balance-refusal k z ≡ None
+unfolding balance-refusal
+passed-at k z fits = ask-yes 11 k _ fits
+
 module _ (s : YearBook) (wide : length (s .demands) ≡ 64) (k : ℕ) where
   abbrev b : Book
   b = book-of s
 
   module _ (a : ℤ) where
-    refused-at : (z : ℤ) → within 1000000000000000 z ≡ false → balance-refusal k z ≡ Some (no-at 11 k)
-    unfolding balance-refusal
-    refused-at z out = ask-no 11 k _ out
-
-    passed-at : (z : ℤ) → within 1000000000000000 z ≡ true → balance-refusal k z ≡ None
-    unfolding balance-refusal
-    passed-at z fits = ask-yes 11 k _ fits
-
     pub refused-11 : k < s .count → within 1000000000000000 (getD (s .accounts .table) k empty-account .market +ℤ a) ≡ false → balance-refusal k (market-balance (b .market) k +ℤ a) ≡ Some (no-at 11 k)
-    refused-11 h out = refused-at _ (rw (market-is s wide k h) out)
+    refused-11 h out = refused-at k _ (rw (market-is s wide k h) out)
 
     pub passed-11 : k < s .count → within 1000000000000000 (getD (s .accounts .table) k empty-account .market +ℤ a) ≡ true → balance-refusal k (market-balance (b .market) k +ℤ a) ≡ None
-    passed-11 h fits = passed-at _ (rw (market-is s wide k h) fits)
+    passed-11 h fits = passed-at k _ (rw (market-is s wide k h) fits)
 
     pub moved-is : k < s .count → (t : List Account) → t ≡ set (s .accounts .table) k (market-moved (getD (s .accounts .table) k empty-account) a) →
         view (s .count) t (s .demands) (s .flags) (s .posted) (s .charge) ≡ with-market b k a

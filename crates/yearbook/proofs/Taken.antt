@@ -25,3 +25,6 @@ accepted-leaves o b b′ b″ e w = rw e w
 -- the last question decides
 pub taken-last : {T : Type 0} (b : Book) (call : Call) (value : T) (b′ : Book) (o : Option Refusal) (said : Result T Refusal) → refusal b call ≡ o → said ≡ answer o value → b′ ≡ settled o b (effect b call) → Taken b call value b′ said
 taken-last b call value b′ o said e a w = record { answered = rw e a; left = rw e w }
+
+pub taken-telling : {T : Type 0} (b : Book) (call : Call) (value told : T) (b′ : Book) → refusal b call ≡ None → told ≡ value → b′ ≡ effect b call → Taken b call value b′ (Ok told)
+taken-telling b call value told b′ e is w = rw is (taken-accepted b call value b′ e w)

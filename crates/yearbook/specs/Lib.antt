@@ -1,4 +1,5 @@
 pub mod Accounts
 pub mod Faults
+pub mod Payments
 pub mod Taken
 pub mod View

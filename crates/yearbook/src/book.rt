@@ -1,6 +1,8 @@
 // The year book. Its RC balances keep within the assessed charge, so the products of spreading fit.
 pub mod market;
 pub mod opening;
+pub mod payment;
+pub mod posting;
 pub mod rc;
 pub mod reading;
 

@@ -2,6 +2,8 @@
 pub mod account;
 pub mod book;
 pub mod fault;
+mod lines;
 mod shares;
+pub mod side;
 mod terms;
 mod tests;

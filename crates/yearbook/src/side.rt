@@ -1,0 +1,6 @@
+// The side of an account that a payment goes to.
+#[derive(Clone, Copy, PartialEq, Eq, Debug)]
+pub enum Side {
+    Market,
+    Rc,
+}
