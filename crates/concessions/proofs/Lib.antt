@@ -1,0 +1,2 @@
+pub mod Allowances
+pub mod Limits

@@ -1,0 +1,3 @@
+pub mod Concessions
+pub mod Faults
+pub mod Places
