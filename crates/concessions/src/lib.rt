@@ -3,5 +3,13 @@ pub mod allowance;
 pub mod exclusion;
 pub mod fault;
 pub mod grandfathering;
+pub mod posted;
 pub mod ramp_in;
-pub mod table;
+mod table;
+
+ghost use Rattle.concessions.specs.Examples.{Holds, examples};
+
+// The worked concessions come out as they are written.
+pub fn examples_hold()
+    ensures { λ _. ⌜ Holds examples ⌝ }
+{}

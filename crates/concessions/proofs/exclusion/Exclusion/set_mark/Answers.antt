@@ -1,4 +1,3 @@
-use native.Mathlib.Omega.{arith}
 use borrow.Author.Needs.{needs}
 use Rattle.questions.specs.Questions.{ask}
 use Rattle.concessions.specs.Concessions.{range-refusal}
