@@ -34,7 +34,8 @@ pub fn coordinator_quantity<R: ChargeRule>(rule: &R, sheet: Sheet<'_>, coordinat
     let mut sum: u64 = 0;
     for resource in 0..256usize {
         if present[resource] {
-            sum += rule.tell_quantity(sheet, coordinator, resource as u8);
+            let quantity = rule.tell_quantity(sheet, coordinator, resource as u8);
+            sum += quantity;
         }
     }
     sum

@@ -47,6 +47,8 @@ pub impl Figures for Meter as MeterFigures {
     }
 }
 
+type Meters = Group<Group<Group<Meter, ByPart>, ByInterval>, ByHour>;
+
 #[derive(Clone, Copy)]
 pub struct SystemOperations {}
 
@@ -60,11 +62,6 @@ pub impl ChargeRule for SystemOperations as SystemOperationsRule {
     }
 
     fn tell_quantity(&self, sheet: Sheet<'_>, coordinator: usize, resource: u8) -> u64 {
-        100
-            * total_of::<Group<Group<Group<Meter, ByPart>, ByInterval>, ByHour>>(
-                sheet,
-                coordinator,
-                resource,
-            )
+        100 * total_of::<Meters>(sheet, coordinator, resource)
     }
 }

@@ -16,8 +16,8 @@ add-sum g c =
     let k = c .loop-resource .resource in
     let more = sum-more (sheet .bytes .now) (sheet .accepted) q bounded (c .args .coordinator) (c .loop-resource .sum) k (c .loop-resource .inv) in
     let low = quantity-low (sheet .bytes .now) (sheet .accepted) q bounded (c .args .coordinator) (k + 1) in
-    let e = c .tell-quantity-sum .ensures in
-    let fits : c .loop-resource .sum + c .tell-quantity-sum .result < 2 ^ 64 = omega arith in
+    let e = c .tell-quantity-quantity .ensures in
+    let fits : c .loop-resource .sum + c .tell-quantity-quantity .result < 2 ^ 64 = omega arith in
     search needs
 
 pub loop-resource-again : need.loop-resource-again
@@ -28,7 +28,7 @@ loop-resource-again g c =
     let k = c .loop-resource .resource in
     let more = sum-more (sheet .bytes .now) (sheet .accepted) q bounded (c .args .coordinator) (c .loop-resource .sum) k (c .loop-resource .inv) in
     elim (c .if-present-resource .came) [
-      | then-present-resource w ↦ w .sum-is ∙ ap (λ x. c .loop-resource .sum + x) (w .tell-quantity-sum .ensures) ∙ more
+      | then-present-resource w ↦ w .sum-is ∙ ap (λ x. c .loop-resource .sum + x) (w .tell-quantity-quantity .ensures) ∙ more
       | else-present-resource w ↦
           let absent = sym (c .resources-of-present .ensures .marks k (c .loop-resource-test .taken)) ∙ w .if-present-resource .left in
           let none = none-under (sheet .bytes .now) (sheet .accepted) q bounded (c .args .coordinator) k absent in
