@@ -74,7 +74,7 @@ module _ (n : ℕ) (a : HourBids) (h : Reached bid-figures n a) where
 
 day-parts : (a : DayBids) (rs : List Row) → folded (segment-figures .add) a rs ≡ record {
   hours = folded (hour-by-hour bid-figures .add) (a .hours) rs;
-  awards = folded (counting-rows (nonzero (from-to 34 35)) .add) (a .awards) rs;
+  «other_bids» = folded (counting-rows (nonzero (from-to 34 35)) .add) (a .«other_bids») rs;
 }
 day-parts a [] = refl
 day-parts a (r ∷ rs) = day-parts (segment-figures .add a r) rs
@@ -102,8 +102,8 @@ module _ (n : ℕ) (a : DayBids) (h : Reached segment-figures n a) where
   pub hours-reached : Reached (hour-by-hour bid-figures) n (a .hours)
   hours-reached = reached-part segment-figures (hour-by-hour bid-figures) n a (λ z. z .hours) (λ rs. ap (λ z. z .hours) (day-parts (segment-figures .start) rs)) h
 
-  pub awards-low : a .awards ≤ n
-  awards-low = count-reached (nonzero (from-to 34 35)) n (a .awards) (reached-part segment-figures (counting-rows (nonzero (from-to 34 35))) n a (λ z. z .awards) (λ rs. ap (λ z. z .awards) (day-parts (segment-figures .start) rs)) h)
+  pub other-bids-low : a .«other_bids» ≤ n
+  other-bids-low = count-reached (nonzero (from-to 34 35)) n (a .«other_bids») (reached-part segment-figures (counting-rows (nonzero (from-to 34 35))) n a (λ z. z .«other_bids») (λ rs. ap (λ z. z .«other_bids») (day-parts (segment-figures .start) rs)) h)
 
   pub hours-low : hour-by-hour bid-figures .total (a .hours) ≤ 4 * n
   hours-low = reached-low (hour-by-hour bid-figures) 4 n (a .hours) (group-bounded ByHour bid-figures 4 bid-figures-bounded (λ r. r .key .hour) 1) hours-reached

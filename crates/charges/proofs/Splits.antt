@@ -18,7 +18,7 @@ use Rattle.charges.specs.Running.{Running, run, grouped, Reached}
 use Rattle.charges.proofs.Reached.{FiguresBounded}
 
 -- the closed groups had so many rows before, the group at hand has those here, and all are at most n
-pub record Split {S K : Type 0} (f : Running S) (most : ℕ) (g : Group S K) (n : ℕ) : Type 0 where
+record Split {S K : Type 0} (f : Running S) (most : ℕ) (g : Group S K) (n : ℕ) : Type 0 where
   pub before : ℕ
   pub here : List Row
   pub low : g .closed ≤ most * before
@@ -33,14 +33,14 @@ module _ {S : Type 0} (K : Type 0) (f : Running S) (most : ℕ) (bounded : Figur
   inside-low : (g : Group S K) (n : ℕ) (s : Split f most g n) → f .total (g .inside) ≤ most * length (s .here)
   inside-low g n s = subst (λ x. f .total x ≤ most * length (s .here)) (sym (s .inside-is)) (bounded (s .here) (s .pass))
 
-  pub total-low : (g : Group S K) (n : ℕ) → Split f most g n → g .closed + f .total (g .inside) ≤ most * n
+  total-low : (g : Group S K) (n : ℕ) → Split f most g n → g .closed + f .total (g .inside) ≤ most * n
   total-low g n s =
       let a = s .low in
       let b = inside-low g n s in
       let c : most * (s .before + length (s .here)) ≤ most * n = mul-le-mul-left most (s .few) in
       omega (arith, mul-add most (s .before) (length (s .here)))
 
-  pub split-add : (g : Group S K) (n : ℕ) (r : Row) → Passes r → Split f most g n → Split f most (grouped {K = K} field least f .add g r) (n + 1)
+  split-add : (g : Group S K) (n : ℕ) (r : Row) → Passes r → Split f most g n → Split f most (grouped {K = K} field least f .add g r) (n + 1)
   split-add g n r w s = go (eqb (field r) (g .current))
     where
       go : (b : Bool) → Split f most (cond b (record { closed = g .closed; current = g .current; inside = f .add (g .inside) r; field = g .field }) (record { closed = g .closed + f .total (g .inside); current = field r; inside = f .add (f .start) r; field = g .field })) (n + 1)
@@ -67,14 +67,19 @@ module _ {S : Type 0} (K : Type 0) (f : Running S) (most : ℕ) (bounded : Figur
       let t = split-folded seen (grouped {K = K} field least f .add g r) (n + 1) (h .1) (split-add g n r (h .0) s) in
       record { before = t .before; here = t .here; low = t .low; inside-is = t .inside-is; pass = t .pass; few = let k = t .few in omega arith }
 
-  pub split-reached : (g : Group S K) (n : ℕ) → Reached (grouped {K = K} field least f) n g → Split f most g n
+  split-reached : (g : Group S K) (n : ℕ) → Reached (grouped {K = K} field least f) n g → Split f most g n
   split-reached g n h =
       let t = split-folded (h .seen) (grouped {K = K} field least f .start) 0 (h .pass) split-start in
       let u = subst (λ x. Split f most x (0 + length (h .seen))) (sym (h .is)) t in
       record { before = u .before; here = u .here; low = u .low; inside-is = u .inside-is; pass = u .pass; few = let k = u .few in let l = h .few in omega arith }
 
-  pub inside-reached : (g : Group S K) (n : ℕ) → Split f most g n → Reached f n (g .inside)
-  inside-reached g n s = record { seen = s .here; few = let k = s .few in omega arith; pass = s .pass; is = s .inside-is }
+  pub inside-reached : (g : Group S K) (n : ℕ) → Reached (grouped {K = K} field least f) n g → Reached f n (g .inside)
+  inside-reached g n h =
+      let s = split-reached g n h in
+      record { seen = s .here; few = let k = s .few in omega arith; pass = s .pass; is = s .inside-is }
+
+  pub reached-total-low : (g : Group S K) (n : ℕ) → Reached (grouped {K = K} field least f) n g → g .closed + f .total (g .inside) ≤ most * n
+  reached-total-low g n h = total-low g n (split-reached g n h)
 
   pub group-bounded : FiguresBounded (grouped {K = K} field least f) most
   group-bounded rs h = subst (λ n. run (grouped {K = K} field least f) rs ≤ most * n) (omega arith) (total-low _ (0 + length rs) (split-folded rs (grouped {K = K} field least f .start) 0 h split-start))

@@ -13,8 +13,7 @@ use Rattle.sheet.specs.declared.row.Row.{Row}
 use Rattle.sheet.specs.Rows.{row-count, row-at, rows, own-rows, pair-rows}
 use Rattle.sheet.specs.Questions.{Accepted}
 use Rattle.sheet.specs.Sheets.{Passes}
-use Rattle.sheet.proofs.Accepted.{few-rows}
-use Rattle.sheet.proofs.Pairs.{length-rows, row-by-place, no-row, rows-pass, of-pair, pair-kept}
+use Rattle.sheet.proofs.Pairs.{length-rows, row-by-place, no-row, rows-pass, of-pair, pair-kept, pair-few}
 use Rattle.charges.specs.Running.{Running, after, run, Reached, walk-at}
 use Rattle.charges.specs.declared.walk.Walk.{Walk}
 use Rattle.charges.proofs.Reached.{FiguresBounded, reached-low}
@@ -56,12 +55,18 @@ module _ (bytes : List ℕ) (ok : Accepted bytes) {S : Type 0} (f : Running S) (
       ∙ one-more (p r) (pair-rows coordinator resource first) r
       ∙ ap (λ x. cond (p x) (f .add (figures-at n) x) (figures-at n)) (row-by-place bytes n no-row l)
 
-  pub walk-total : (w : Walk S) (n : ℕ) → w ≡ walk-at f coordinator resource (rows bytes) n → row-count bytes ≤ n → f .total (w .figures) ≡ run f (pair-rows coordinator resource (rows bytes))
-  walk-total w n e l = ap (λ z. f .total (z .figures)) e ∙ ap (λ rs. run f (pair-rows coordinator resource rs)) (take-all n (rows bytes) (omega (arith, length-rows bytes)))
+  pub walk-all : (w : Walk S) (n : ℕ) → w ≡ walk-at f coordinator resource (rows bytes) n → row-count bytes ≤ n → w .figures ≡ after f (pair-rows coordinator resource (rows bytes))
+  walk-all w n e l = ap (λ z. z .figures) e ∙ ap (λ rs. after f (pair-rows coordinator resource rs)) (take-all n (rows bytes) (omega (arith, length-rows bytes)))
 
-  -- what an accepted sheet's pair comes to
+  -- the figures of an accepted sheet's pair
+  pub pair-reached : (s : S) → s ≡ after f (pair-rows coordinator resource (rows bytes)) → Reached f 2048 s
+  pair-reached s e = record {
+    seen = pair-rows coordinator resource (rows bytes);
+    few = pair-few bytes ok coordinator resource;
+    pass = all-pair Passes coordinator resource (rows bytes) (rows-pass bytes ok);
+    is = e;
+  }
+
+  -- what they come to
   pub pair-low : (most : ℕ) → FiguresBounded f most → run f (pair-rows coordinator resource (rows bytes)) ≤ most * 2048
-  pair-low most b =
-      let few = few-rows bytes ok in
-      subst (λ rs. run f (pair-rows coordinator resource rs) ≤ most * 2048) (take-all (row-count bytes) (rows bytes) (omega (arith, length-rows bytes)))
-      (reached-low f most 2048 (figures-at (row-count bytes)) b (reached-at (row-count bytes) 2048 (omega arith) (omega arith)))
+  pair-low most b = reached-low f most 2048 _ b (pair-reached _ refl)

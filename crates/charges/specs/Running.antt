@@ -149,11 +149,12 @@ bid-figures = record {
   total = λ a. segments (a .bids) (a .schedules) + segments (a .«real_time_bids») (a .«real_time_schedules»);
 }
 
+-- the hours' bids, and the ancillary and virtual ones
 abbrev pub segment-figures : Running DayBids
 segment-figures = record {
-  start = record { hours = hour-by-hour bid-figures .start; awards = 0 };
-  add = λ a r. record { hours = hour-by-hour bid-figures .add (a .hours) r; awards = counting-rows (nonzero (from-to 34 35)) .add (a .awards) r };
-  total = λ a. hour-by-hour bid-figures .total (a .hours) + a .awards;
+  start = record { hours = hour-by-hour bid-figures .start; «other_bids» = 0 };
+  add = λ a r. record { hours = hour-by-hour bid-figures .add (a .hours) r; «other_bids» = counting-rows (nonzero (from-to 34 35)) .add (a .«other_bids») r };
+  total = λ a. hour-by-hour bid-figures .total (a .hours) + a .«other_bids»;
 }
 
 -- ---- TOR and trade fee

@@ -26,7 +26,7 @@ pub struct HourBids {
 #[derive(Drop)]
 pub struct DayBids {
     pub hours: Group<HourBids, ByHour>,
-    pub awards: u64,
+    pub other_bids: u64,
 }
 
 // Beside a self-schedule the first bid is free.
@@ -82,19 +82,19 @@ pub impl Figures for DayBids as SegmentFigures {
     fn start() -> Self {
         DayBids {
             hours: GroupFigures::start(),
-            awards: 0,
+            other_bids: 0,
         }
     }
 
     fn add(&mut self, row: Row) {
         self.hours.add(row);
         if row.key.kind >= 34 && row.key.kind <= 35 && row.quantity != 0 {
-            self.awards += 1;
+            self.other_bids += 1;
         }
     }
 
     fn total(&self) -> u64 {
-        self.hours.total() + self.awards
+        self.hours.total() + self.other_bids
     }
 }
 

@@ -3,7 +3,7 @@ ghost use Prim.Native.Nat.{_+_, _<_};
 ghost use mathlib.Core.List.{List};
 ghost use mathlib.Core.Path.{_≡_};
 ghost use Rattle.charges.specs.Laws.{PartIsByte};
-ghost use Rattle.charges.specs.Running.{run, walk-at};
+ghost use Rattle.charges.specs.Running.{after, run, walk-at};
 ghost use Rattle.sheet.specs.Rows.{pair-rows, row-at, row-count};
 ghost use Rattle.sheet.specs.Sheets.{sheet-rows};
 ghost use Rattle.sheet.specs.declared.row.Row.{Row};
@@ -49,14 +49,23 @@ impl<F: Figures> Walk<F> {
     }
 }
 
-// What the figures of the pair's rows come to.
-pub fn total_of<F: Figures + Drop>(sheet: Sheet<'_>, coordinator: usize, resource: u8) -> u64
-    ensures value { λ r. ⌜ r ≡ run (F·Figures .running) (pair-rows coordinator resource (sheet-rows (sheet .entry))) ⌝ }
+// The walk over a whole sheet: its figures are those of the pair's rows, in order.
+pub fn walk_over<F: Figures + Drop>(sheet: Sheet<'_>, coordinator: usize, resource: u8) -> Walk<F>
+    ensures figures { λ r. ⌜ r .figures ≡ after (F·Figures .running) (pair-rows coordinator resource (sheet-rows (sheet .entry))) ⌝ }
     ensures parts { λ _. ⌜ All PartIsByte (sheet-rows (sheet .entry)) ⌝ }
 {
     let mut walk: Walk<F> = Walk::new(coordinator, resource);
     for _i in 0..sheet.len() {
         walk.step(sheet);
     }
+    walk
+}
+
+// What the figures of the pair's rows come to.
+pub fn total_of<F: Figures + Drop>(sheet: Sheet<'_>, coordinator: usize, resource: u8) -> u64
+    ensures value { λ r. ⌜ r ≡ run (F·Figures .running) (pair-rows coordinator resource (sheet-rows (sheet .entry))) ⌝ }
+    ensures parts { λ _. ⌜ All PartIsByte (sheet-rows (sheet .entry)) ⌝ }
+{
+    let walk: Walk<F> = walk_over(sheet, coordinator, resource);
     walk.figures.total()
 }

@@ -4,7 +4,7 @@ use Rattle.sheet.specs.Rows.{row-at}
 use Rattle.sheet.specs.Sheets.{sheet-rows}
 use Rattle.charges.specs.Laws.{PartIsByte}
 use Rattle.charges.specs.Running.{walk-at}
-use Rattle.charges.proofs.walk.total_of.Given as given
+use Rattle.charges.proofs.walk.walk_over.Given as given
 
 abbrev pub Inv-loop-i : given.InvT-loop-i
 Inv-loop-i g l =
