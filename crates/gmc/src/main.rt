@@ -1,14 +1,18 @@
 // gmc: does the commands of a journal, one to a line, and prints what each is answered.
+mod charge;
 mod command;
+mod engine;
 mod help;
 mod malformed;
 mod outcome;
 mod sheet_bytes;
+mod words;
 
-use crate::command::Command;
+use crate::engine::Engine;
 use crate::malformed::Malformed;
 use crate::malformed::MalformedDisplay;
-use crate::outcome::Outcome;
+use crate::malformed::Quoted;
+use crate::malformed::QuotedDisplay;
 use crate::outcome::OutcomeDisplay;
 use std::env;
 use std::error::AnyError;
@@ -19,18 +23,8 @@ use std::io::BufReader;
 use std::io::Read;
 use std::str::from_utf8;
 
-// Does one command, and answers what is printed behind its line number.
-fn outcome_of<'a>(rt: &LibcRuntime, line: &'a str) -> Result<Outcome, Malformed<'a>> {
-    match command::parse(line)? {
-        Command::Check { sheet } => {
-            let bytes = sheet_bytes::read(rt, sheet)?;
-            Ok(Outcome::Check(sheet::check::check(bytes.as_slice())))
-        }
-    }
-}
-
 // Does one line of the journal and prints its outcome; false where it is malformed.
-fn take_line(rt: &LibcRuntime, number: u64, bytes: &[u8]) -> io::Result<bool> {
+fn do_line(rt: &LibcRuntime, engine: &mut Engine, number: u64, bytes: &[u8]) -> io::Result<bool> {
     let Ok(text) = from_utf8(bytes) else {
         println!(rt, "{number} malformed {}", Malformed::NotText)?;
         return Ok(false);
@@ -39,7 +33,7 @@ fn take_line(rt: &LibcRuntime, number: u64, bytes: &[u8]) -> io::Result<bool> {
     if line.is_empty() || line.starts_with('#') {
         return Ok(true);
     }
-    match outcome_of(rt, line) {
+    match engine.do_command(rt, line) {
         Ok(outcome) => {
             println!(rt, "{number} {outcome}")?;
             Ok(true)
@@ -53,15 +47,26 @@ fn take_line(rt: &LibcRuntime, number: u64, bytes: &[u8]) -> io::Result<bool> {
 
 // Does the journal's lines in turn; false where one was malformed.
 fn do_journal<R: Read + Drop>(rt: &LibcRuntime, journal: R) -> io::Result<bool> {
+    let mut engine = Engine::new();
     let mut number: u64 = 0;
     let mut well_formed = true;
     for line in BufReader::new(journal).split(rt.alloc(), b'\n') {
         number = number.saturating_add(1);
-        if !take_line(rt, number, line?.as_slice())? {
+        if !do_line(rt, &mut engine, number, line?.as_slice())? {
             well_formed = false;
         }
     }
     Ok(well_formed)
+}
+
+fn do_file(rt: &LibcRuntime, path: &str) -> io::Result<bool> {
+    match File::open(rt, path) {
+        Ok(file) => do_journal(rt, file),
+        Err(error) => {
+            eprintln!(rt, "gmc: cannot read journal {}", Quoted(path))?;
+            Err(error)
+        }
+    }
 }
 
 // The journal is the file that the first argument names, or else standard input.
@@ -74,7 +79,7 @@ fn run(rt: &LibcRuntime) -> Result<(), AnyError> {
             if arg.as_str() == "--help" {
                 return Ok(help::print(rt)?);
             }
-            do_journal(rt, File::open(rt, arg.as_str())?)?
+            do_file(rt, arg.as_str())?
         }
     };
     if well_formed {
