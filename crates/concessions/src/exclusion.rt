@@ -10,6 +10,7 @@ use crate::table::figure_at;
 use charges::rule::ChargeRule;
 use sheet::sheet::Sheet;
 
+#[derive(Drop)]
 pub struct Exclusion<R> {
     pub(crate) below: R,
     marks: [u8; 64],

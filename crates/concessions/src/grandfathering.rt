@@ -16,6 +16,7 @@ const MOST_LISTED: usize = 128;
 
 const MOST_ALLOWANCE: u64 = 819_200_000_000;
 
+#[derive(Drop)]
 pub struct Grandfathering<R> {
     pub(crate) below: R,
     listed: [Allowance; 128],

@@ -11,6 +11,7 @@ use crate::table::figure_at;
 use charges::rule::ChargeRule;
 use sheet::sheet::Sheet;
 
+#[derive(Drop)]
 pub struct RampIn<R> {
     pub(crate) below: R,
     percents: [u8; 64],

@@ -3,37 +3,36 @@ use crate::charge;
 use crate::charge::Charge;
 use crate::malformed::Malformed;
 use crate::words::next;
-use crate::words::to_i64;
-use crate::words::to_u8;
-use crate::words::to_u16;
-use crate::words::to_u32;
-use crate::words::to_u64;
-use crate::words::to_usize;
+use crate::words::number;
 use std::str::SplitWhitespace;
 use yearbook::side::Side;
 
 // A sheet stands as the word that names it, a list as it is written.
 #[derive(Clone, Copy)]
 pub enum Command<'a> {
-    Check {
-        sheet: &'a str,
-    },
-    Open {
-        demands: &'a str,
-        flags: &'a str,
-    },
+    OnSheet(SheetCommand, &'a str),
+    Open { demands: &'a str, flags: &'a str },
+    OnBook(BookCommand),
+    Concession(ConcessionEntry),
+}
+
+#[derive(Clone, Copy)]
+pub enum SheetCommand {
+    Check,
     Post {
         charge: Charge,
         day: u16,
         rate: u32,
-        sheet: &'a str,
     },
     Quote {
         charge: Charge,
         coordinator: usize,
         rate: u32,
-        sheet: &'a str,
     },
+}
+
+#[derive(Clone, Copy)]
+pub enum BookCommand {
     Adjust {
         coordinator: usize,
         cents: i64,
@@ -55,6 +54,10 @@ pub enum Command<'a> {
         coordinator: usize,
     },
     Totals,
+}
+
+#[derive(Clone, Copy)]
+pub enum ConcessionEntry {
     MarketServicesExclusion {
         coordinator: usize,
         mark: u8,
@@ -82,92 +85,100 @@ fn side(word: &str) -> Result<Side, Malformed<'_>> {
     }
 }
 
-fn exclusion<'a>(words: &mut SplitWhitespace<'a>) -> Result<Command<'a>, Malformed<'a>> {
+fn post<'a>(words: &mut SplitWhitespace<'a>) -> Result<Command<'a>, Malformed<'a>> {
+    let charge = charge::named(next(words, "CHARGE")?)?;
+    let day = number(next(words, "DAY")?)?;
+    let rate = number(next(words, "RATE")?)?;
+    let sheet = next(words, "SHEET")?;
+    Ok(Command::OnSheet(SheetCommand::Post { charge, day, rate }, sheet))
+}
+
+fn quote<'a>(words: &mut SplitWhitespace<'a>) -> Result<Command<'a>, Malformed<'a>> {
+    let charge = charge::named(next(words, "CHARGE")?)?;
+    let coordinator = number(next(words, "COORDINATOR")?)?;
+    let rate = number(next(words, "RATE")?)?;
+    let sheet = next(words, "SHEET")?;
+    let command = SheetCommand::Quote {
+        charge,
+        coordinator,
+        rate,
+    };
+    Ok(Command::OnSheet(command, sheet))
+}
+
+fn exclusion<'a>(words: &mut SplitWhitespace<'a>) -> Result<ConcessionEntry, Malformed<'a>> {
     let table = next(words, "CHARGE")?;
-    let coordinator = to_usize(next(words, "COORDINATOR")?)?;
-    let mark = to_u8(next(words, "MARK")?)?;
+    let coordinator = number(next(words, "COORDINATOR")?)?;
+    let mark = number(next(words, "MARK")?)?;
     match table {
-        "market-services" => Ok(Command::MarketServicesExclusion { coordinator, mark }),
-        "system-operations" => Ok(Command::SystemOperationsExclusion { coordinator, mark }),
+        "market-services" => Ok(ConcessionEntry::MarketServicesExclusion { coordinator, mark }),
+        "system-operations" => Ok(ConcessionEntry::SystemOperationsExclusion { coordinator, mark }),
         _ => Err(Malformed::UnknownTable(table)),
     }
 }
 
-// The commands that name a sheet.
-fn sheet_command<'a>(
-    name: &'a str,
-    words: &mut SplitWhitespace<'a>,
-) -> Result<Command<'a>, Malformed<'a>> {
-    match name {
-        "check" => Ok(Command::Check {
-            sheet: next(words, "SHEET")?,
-        }),
-        "post" => Ok(Command::Post {
-            charge: charge::named(next(words, "CHARGE")?)?,
-            day: to_u16(next(words, "DAY")?)?,
-            rate: to_u32(next(words, "RATE")?)?,
-            sheet: next(words, "SHEET")?,
-        }),
-        _ => Ok(Command::Quote {
-            charge: charge::named(next(words, "CHARGE")?)?,
-            coordinator: to_usize(next(words, "COORDINATOR")?)?,
-            rate: to_u32(next(words, "RATE")?)?,
-            sheet: next(words, "SHEET")?,
-        }),
-    }
+fn ramp_in<'a>(words: &mut SplitWhitespace<'a>) -> Result<ConcessionEntry, Malformed<'a>> {
+    Ok(ConcessionEntry::RampIn {
+        coordinator: number(next(words, "COORDINATOR")?)?,
+        percent: number(next(words, "PERCENT")?)?,
+    })
 }
 
-// The entries of the concession tables.
-fn concession<'a>(
-    name: &'a str,
-    words: &mut SplitWhitespace<'a>,
-) -> Result<Command<'a>, Malformed<'a>> {
-    match name {
-        "exclusion" => exclusion(words),
-        "ramp-in" => Ok(Command::RampIn {
-            coordinator: to_usize(next(words, "COORDINATOR")?)?,
-            percent: to_u8(next(words, "PERCENT")?)?,
-        }),
-        _ => Ok(Command::Grandfathering {
-            coordinator: to_usize(next(words, "COORDINATOR")?)?,
-            resource: to_u8(next(words, "RESOURCE")?)?,
-            allowance: to_u64(next(words, "ALLOWANCE")?)?,
-        }),
-    }
+fn grandfathering<'a>(words: &mut SplitWhitespace<'a>) -> Result<ConcessionEntry, Malformed<'a>> {
+    Ok(ConcessionEntry::Grandfathering {
+        coordinator: number(next(words, "COORDINATOR")?)?,
+        resource: number(next(words, "RESOURCE")?)?,
+        allowance: number(next(words, "ALLOWANCE")?)?,
+    })
 }
 
 // The calls of the book that name no sheet.
-fn book_command<'a>(
+fn on_book<'a>(
+    name: &'a str,
+    words: &mut SplitWhitespace<'a>,
+) -> Result<BookCommand, Malformed<'a>> {
+    match name {
+        "adjust" => Ok(BookCommand::Adjust {
+            coordinator: number(next(words, "COORDINATOR")?)?,
+            cents: number(next(words, "CENTS")?)?,
+        }),
+        "pay" => Ok(BookCommand::Pay {
+            side: side(next(words, "SIDE")?)?,
+            coordinator: number(next(words, "COORDINATOR")?)?,
+            cents: number(next(words, "CENTS")?)?,
+        }),
+        "assess" => Ok(BookCommand::Assess {
+            charge: number(next(words, "CHARGE")?)?,
+            minimum: number(next(words, "MINIMUM")?)?,
+        }),
+        "default" => Ok(BookCommand::Default {
+            debtor: number(next(words, "COORDINATOR")?)?,
+            cents: number(next(words, "CENTS")?)?,
+        }),
+        "balances" => Ok(BookCommand::Balances {
+            coordinator: number(next(words, "COORDINATOR")?)?,
+        }),
+        "totals" => Ok(BookCommand::Totals),
+        _ => Err(Malformed::UnknownCommand(name)),
+    }
+}
+
+fn named<'a>(
     name: &'a str,
     words: &mut SplitWhitespace<'a>,
 ) -> Result<Command<'a>, Malformed<'a>> {
     match name {
+        "check" => Ok(Command::OnSheet(SheetCommand::Check, next(words, "SHEET")?)),
+        "post" => post(words),
+        "quote" => quote(words),
         "open" => Ok(Command::Open {
             demands: next(words, "DEMANDS")?,
             flags: next(words, "FLAGS")?,
         }),
-        "adjust" => Ok(Command::Adjust {
-            coordinator: to_usize(next(words, "COORDINATOR")?)?,
-            cents: to_i64(next(words, "CENTS")?)?,
-        }),
-        "pay" => Ok(Command::Pay {
-            side: side(next(words, "SIDE")?)?,
-            coordinator: to_usize(next(words, "COORDINATOR")?)?,
-            cents: to_u64(next(words, "CENTS")?)?,
-        }),
-        "assess" => Ok(Command::Assess {
-            charge: to_u64(next(words, "CHARGE")?)?,
-            minimum: to_u64(next(words, "MINIMUM")?)?,
-        }),
-        "default" => Ok(Command::Default {
-            debtor: to_usize(next(words, "COORDINATOR")?)?,
-            cents: to_u64(next(words, "CENTS")?)?,
-        }),
-        "balances" => Ok(Command::Balances {
-            coordinator: to_usize(next(words, "COORDINATOR")?)?,
-        }),
-        "totals" => Ok(Command::Totals),
-        _ => Err(Malformed::UnknownCommand(name)),
+        "exclusion" => Ok(Command::Concession(exclusion(words)?)),
+        "ramp-in" => Ok(Command::Concession(ramp_in(words)?)),
+        "grandfathering" => Ok(Command::Concession(grandfathering(words)?)),
+        _ => Ok(Command::OnBook(on_book(name, words)?)),
     }
 }
 
@@ -175,11 +186,7 @@ fn book_command<'a>(
 pub fn parse(line: &str) -> Result<Command<'_>, Malformed<'_>> {
     let mut words = line.split_whitespace();
     let name = next(&mut words, "COMMAND")?;
-    let command = match name {
-        "check" | "post" | "quote" => sheet_command(name, &mut words)?,
-        "exclusion" | "ramp-in" | "grandfathering" => concession(name, &mut words)?,
-        _ => book_command(name, &mut words)?,
-    };
+    let command = named(name, &mut words)?;
     match words.next() {
         None => Ok(command),
         Some(extra) => Err(Malformed::Extra(extra)),

@@ -1,6 +1,7 @@
 // Words of a journal's line, read as what a command takes.
 use crate::malformed::Malformed;
 use std::alloc::Global;
+use std::str::FromStr;
 use std::str::SplitWhitespace;
 
 // The next word, or the name of what is missing.
@@ -14,71 +15,30 @@ pub fn next<'a>(
     }
 }
 
-pub fn to_u8(word: &str) -> Result<u8, Malformed<'_>> {
-    match word.parse::<u8>() {
-        Ok(number) => Ok(number),
-        Err(_) => Err(Malformed::NotNumber(word)),
-    }
-}
-
-pub fn to_u16(word: &str) -> Result<u16, Malformed<'_>> {
-    match word.parse::<u16>() {
-        Ok(number) => Ok(number),
-        Err(_) => Err(Malformed::NotNumber(word)),
-    }
-}
-
-pub fn to_u32(word: &str) -> Result<u32, Malformed<'_>> {
-    match word.parse::<u32>() {
-        Ok(number) => Ok(number),
-        Err(_) => Err(Malformed::NotNumber(word)),
-    }
-}
-
-pub fn to_u64(word: &str) -> Result<u64, Malformed<'_>> {
-    match word.parse::<u64>() {
-        Ok(number) => Ok(number),
-        Err(_) => Err(Malformed::NotNumber(word)),
-    }
-}
-
-pub fn to_i64(word: &str) -> Result<i64, Malformed<'_>> {
-    match word.parse::<i64>() {
-        Ok(number) => Ok(number),
-        Err(_) => Err(Malformed::NotNumber(word)),
-    }
-}
-
-pub fn to_usize(word: &str) -> Result<usize, Malformed<'_>> {
-    match word.parse::<usize>() {
-        Ok(number) => Ok(number),
+// A number that fits its type.
+pub fn number<T: FromStr>(word: &str) -> Result<T, Malformed<'_>>
+where
+    T::Err: Drop,
+{
+    match word.parse::<T>() {
+        Ok(value) => Ok(value),
         Err(_) => Err(Malformed::NotNumber(word)),
     }
 }
 
 // Numbers with commas between them; `-` is an empty list.
-pub fn to_demands(heap: Global, word: &str) -> Result<Vec<u32>, Malformed<'_>> {
-    let mut demands = Vec::new(heap);
+pub fn list<T: FromStr + Drop>(heap: Global, word: &str) -> Result<Vec<T>, Malformed<'_>>
+where
+    T::Err: Drop,
+{
+    let mut values = Vec::new(heap);
     if word == "-" {
-        return Ok(demands);
+        return Ok(values);
     }
-    for number in word.split(',') {
-        if demands.push(to_u32(number)?).is_err() {
+    for part in word.split(',') {
+        if values.push(number::<T>(part)?).is_err() {
             return Err(Malformed::NoMemory);
         }
     }
-    Ok(demands)
-}
-
-pub fn to_flags(heap: Global, word: &str) -> Result<Vec<u8>, Malformed<'_>> {
-    let mut flags = Vec::new(heap);
-    if word == "-" {
-        return Ok(flags);
-    }
-    for number in word.split(',') {
-        if flags.push(to_u8(number)?).is_err() {
-            return Err(Malformed::NoMemory);
-        }
-    }
-    Ok(flags)
+    Ok(values)
 }

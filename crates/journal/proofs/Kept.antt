@@ -6,7 +6,7 @@ use Rattle.std.specs.declared.option.Option.the-variants.{Some, None}
 use Rattle.std.specs.declared.result.Result.{Result}
 use Rattle.std.specs.declared.result.Result.the-variants.{Ok, Err}
 use Rattle.questions.specs.Questions.{Refusal, acceptance, answer, told}
-use Rattle.questions.proofs.Asked.{ok-answer, err-answer}
+use Rattle.questions.proofs.Asked.{by-refusal, ok-answer, err-answer}
 use Rattle.year.specs.Terms.{Terms, count, open-refusal}
 use Rattle.year.specs.Book.{Book, Call, opened, refusal, settled, step, run, accepted-calls}
 use Rattle.year.specs.Balances.{EachBalance}
@@ -66,3 +66,10 @@ module _ (t : Terms) (calls : List Call) (before : Book) where
 
   pub answers-refused : (r : Refusal) → open-refusal t ≡ Some r → (places : List (Result Answer Refusal)) → places ≡ written places (year-answers (open-refusal t) t calls)
   answers-refused r refused places = rw refused (nothing-written places)
+
+-- with no call behind the opening
+pub kept-by-opening : (t : Terms) (before now : Book) → now ≡ settled (open-refusal t) before (opened t) → Kept (open-refusal t) t [] before now
+kept-by-opening t before now e =
+    by-refusal (open-refusal t)
+    (λ ok. kept-opening t [] before ok now now e refl)
+    (λ r refused. kept-refused t [] before r refused now e)

@@ -80,6 +80,14 @@ pub fn enter_all<R: ChargeRule>(
     }
 }
 
+// Opens the book for a year. A refused opening leaves it.
+pub fn open_year(book: &mut YearBook, demands: &[u32], flags: &[u8]) -> Result<(), BookFault>
+    ensures opened { λ r. ⌜ told book-fault r ≡ acceptance (open-refusal (record { demands = now (demands .entry); flags = now (flags .entry) })) ⌝ }
+    ensures law { λ r. ⌜ Kept (open-refusal (record { demands = now (demands .entry); flags = now (flags .entry) })) (record { demands = now (demands .entry); flags = now (flags .entry) }) [] (book-of (now (book .entry))) (book-of (now (book .exit))) ⌝ }
+{
+    book.open(demands, flags)
+}
+
 // Opens the book and takes a year's entries in turn. A refused opening leaves the book and the answers.
 pub fn keep_year<R: ChargeRule>(
     book: &mut YearBook,
