@@ -1,5 +1,5 @@
 -- What follows from questions that were passed or not, and one turn of a loop that asks.
-use mathlib.Core.Path.{_≡_, refl, sym, ap, _∙_}
+use mathlib.Core.Path.{_≡_, refl, sym, ap, ap₂, _∙_}
 use mathlib.Core.Bool.{Bool, true, false}
 use mathlib.Core.Logic.{⊎-elim}
 use Prim.Native.Nat.{ℕ, zero, suc, _+_, _<_, _≤_}
@@ -66,6 +66,12 @@ module _ (asked : ℕ → Option Refusal) where
       by-refusal (in-turn n asked)
       (λ ok. (n, omega arith, ok, (rw ok at e)))
       (λ g refused. let same : in-turn n asked ≡ Some r = refused ∙ (rw refused at e) in let p = turn-first n r same in (p .0, omega arith, p .2, p .3))
+
+-- the same questions at each place below n
+pub turn-same : (n : ℕ) (asked asked′ : ℕ → Option Refusal) → ((k : ℕ) → k < n → asked k ≡ asked′ k) → in-turn n asked ≡ in-turn n asked′
+unfolding in-turn
+turn-same zero asked asked′ h = refl
+turn-same (suc n) asked asked′ h = ap₂ first (turn-same n asked asked′ (λ k l. h k (omega arith))) (h n (omega arith))
 
 -- ---- what an answer tells of the questions
 

@@ -1,0 +1,12 @@
+pub mod Sums
+pub mod Spread
+pub mod Passed
+pub mod Market
+pub mod Rc
+pub mod Defaults
+pub mod Ledger
+pub mod Balances
+pub mod Isolation
+pub mod Opening
+pub mod Year
+pub mod Examples

@@ -1,0 +1,13 @@
+pub mod Plus
+pub mod Spread
+pub mod Terms
+pub mod Market
+pub mod Rc
+pub mod Book
+pub mod Reading
+pub mod Balances
+pub mod Amounts
+pub mod Defaults
+pub mod Isolation
+pub mod Year
+pub mod Examples
