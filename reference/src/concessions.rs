@@ -26,7 +26,12 @@ pub enum Table {
 }
 
 impl Tables {
-    pub fn enter_mark(&mut self, table: Table, coordinator: usize, mark: u8) -> Result<(), Refusal> {
+    pub fn enter_mark(
+        &mut self,
+        table: Table,
+        coordinator: usize,
+        mark: u8,
+    ) -> Result<(), Refusal> {
         ask(18, coordinator < 64 && mark <= 1)?;
         let excluded = match table {
             Table::MarketServices => &mut self.excluded_market,
