@@ -2,7 +2,7 @@
 
 use crate::damage::damaged;
 use crate::journal::Journal;
-use crate::sheets::encode;
+use crate::sheets::{encode, Rows};
 use reference::book::{MOST_AMOUNT, MOST_CHARGE, MOST_DEMAND};
 use reference::charges::{Charge, CHARGES};
 
@@ -44,9 +44,15 @@ impl Journal {
             }
             Call::Quote => {
                 let (name, charge) = self.random.pick(&CHARGES);
-                let (who, rate) = (self.coordinator(), self.rate());
+                let rows = self.rows_for(charge);
+                let who = if !rows.is_empty() && self.random.chance(60) {
+                    self.random.pick(&rows).0[0].into()
+                } else {
+                    self.coordinator()
+                };
+                let rate = self.rate();
                 let (who, rate) = (self.figure(who as i128), self.figure(rate.into()));
-                words(&["quote", name, &who, &rate, &self.sheet(charge, 12)])
+                words(&["quote", name, &who, &rate, &self.sheet_of(rows, 12)])
             }
             Call::Adjust => {
                 let who = self.coordinator();
@@ -104,6 +110,10 @@ impl Journal {
     /// A sheet for the charge; so many percent of them are damaged.
     pub fn sheet(&mut self, charge: Charge, percent: usize) -> String {
         let rows = self.rows_for(charge);
+        self.sheet_of(rows, percent)
+    }
+
+    fn sheet_of(&mut self, rows: Rows, percent: usize) -> String {
         let bytes = if self.random.chance(percent) {
             damaged(&mut self.random, rows)
         } else {

@@ -132,7 +132,7 @@ impl Journal {
     }
 
     pub fn rows_for(&mut self, charge: Charge) -> Rows {
-        let large = self.large && self.random.chance(25);
+        let large = self.large && self.random.chance(40);
         let coordinators = self.sheet_coordinators();
         let random = &mut self.random;
         let size = match random.below(100) {
