@@ -5,13 +5,13 @@ use mathlib.Core.List.{List}
 use native.Mathlib.Omega.{arith}
 use native.Mathlib.Nat.{mul-le-mul-left}
 use lib.Dec.{eqb}
-use lib.ListN.{getD, take}
+use lib.ListN.{getD}
 use Rattle.charges.specs.Rules.{Bounded}
 use Rattle.charges.proofs.Laws.{charges-bounded}
-use Rattle.concessions.specs.declared.allowance.Allowance.{Allowance}
+use Rattle.concessions.specs.declared.allowances.Allowance.{Allowance}
 use Rattle.concessions.specs.declared.posted.PostedRule.{PostedRule}
 use Rattle.concessions.specs.declared.posted.PostedRule.the-variants.{MarketServices, SystemOperations, BidSegment, Tor, TradeFee}
-use Rattle.concessions.specs.Concessions.{Quantity, excluded, grandfathered, ramped-in}
+use Rattle.concessions.specs.Concessions.{Quantity, excluded, grandfathered, listed, ramped-in}
 use Rattle.concessions.specs.Posted.{posted-quantity}
 
 excluded-bounded : (marks : List ℕ) (below : Quantity) → Bounded below → Bounded (excluded marks below)
@@ -21,8 +21,8 @@ excluded-bounded marks below h coordinator resource rs p = go (eqb (getD marks c
     go true l = omega arith
     go false l = l
 
-grandfathered-bounded : (listed : List Allowance) (below : Quantity) → Bounded below → Bounded (grandfathered listed below)
-grandfathered-bounded listed below h coordinator resource rs p = let l = h coordinator resource rs p in omega arith
+grandfathered-bounded : (entries : List Allowance) (below : Quantity) → Bounded below → Bounded (grandfathered entries below)
+grandfathered-bounded entries below h coordinator resource rs p = let l = h coordinator resource rs p in omega arith
 
 part-le : (x part : ℕ) → part ≤ 100 → x * part / 100 ≤ x
 part-le x part h = let l = mul-le-mul-left x h in omega arith
@@ -37,7 +37,7 @@ pub posted-bounded : (rule : PostedRule) → Bounded (posted-quantity rule)
 posted-bounded (MarketServices rule) = excluded-bounded (rule .marks) _ (charges-bounded .market-services-bounded)
 posted-bounded (SystemOperations rule) =
     ramped-in-bounded (rule .percents) _
-    (excluded-bounded (rule .below .marks) _ (grandfathered-bounded (take (rule .below .below .count) (rule .below .below .listed)) _ (charges-bounded .system-operations-bounded)))
+    (excluded-bounded (rule .below .marks) _ (grandfathered-bounded (listed (rule .below .below .allowances)) _ (charges-bounded .system-operations-bounded)))
 posted-bounded (BidSegment rule) = charges-bounded .bid-segment-bounded
 posted-bounded (Tor rule) = charges-bounded .tor-bounded
 posted-bounded (TradeFee rule) = charges-bounded .trade-fee-bounded

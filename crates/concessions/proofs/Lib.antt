@@ -1,4 +1,4 @@
-pub mod Allowances
 pub mod Bounds
 pub mod Examples
 pub mod Limits
+pub mod Lookup

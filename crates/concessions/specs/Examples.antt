@@ -3,7 +3,7 @@ use Prim.Native.Nat.{ℕ}
 use mathlib.Core.Path.{_≡_}
 use mathlib.Core.List.{List, [], _∷_}
 use lib.ListN.{replicate, set}
-use Rattle.concessions.specs.declared.allowance.Allowance.{Allowance}
+use Rattle.concessions.specs.declared.allowances.Allowance.{Allowance}
 use Rattle.concessions.specs.Concessions.{Quantity, excluded, grandfathered, ramped-in}
 
 -- a table of zeros but for coordinator 3
@@ -11,8 +11,8 @@ abbrev pub only-3 : ℕ → List ℕ
 only-3 figure = set (replicate 64 0) 3 figure
 
 -- an allowance of 30,000,000 for coordinator 3 and resource 7
-abbrev pub listed : List Allowance
-listed = record { coordinator = 3; resource = 7; quantity = 30000000 } ∷ []
+abbrev pub one-listed : List Allowance
+one-listed = record { coordinator = 3; resource = 7; quantity = 30000000 } ∷ []
 
 pub record Example : Type 0 where
   pub concession : Quantity → Quantity
@@ -32,8 +32,8 @@ examples =
     ∷ record { concession = ramped-in (only-3 95); coordinator = 3; resource = 7; whole = 19; told = 0 }
     ∷ record { concession = excluded (only-3 1); coordinator = 3; resource = 7; whole = 100000000; told = 0 }
     ∷ record { concession = excluded (only-3 1); coordinator = 4; resource = 7; whole = 100000000; told = 100000000 }
-    ∷ record { concession = grandfathered listed; coordinator = 3; resource = 7; whole = 100000000; told = 70000000 }
-    ∷ record { concession = grandfathered listed; coordinator = 3; resource = 8; whole = 100000000; told = 100000000 }
-    ∷ record { concession = grandfathered listed; coordinator = 3; resource = 7; whole = 20000000; told = 0 }
-    ∷ record { concession = λ below. ramped-in (only-3 95) (grandfathered listed below); coordinator = 3; resource = 7; whole = 100000000; told = 3500000 }
+    ∷ record { concession = grandfathered one-listed; coordinator = 3; resource = 7; whole = 100000000; told = 70000000 }
+    ∷ record { concession = grandfathered one-listed; coordinator = 3; resource = 8; whole = 100000000; told = 100000000 }
+    ∷ record { concession = grandfathered one-listed; coordinator = 3; resource = 7; whole = 20000000; told = 0 }
+    ∷ record { concession = λ below. ramped-in (only-3 95) (grandfathered one-listed below); coordinator = 3; resource = 7; whole = 100000000; told = 3500000 }
     ∷ []

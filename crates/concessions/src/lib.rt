@@ -1,8 +1,9 @@
 // Concessions: exclusion, grandfathering and ramp-in, each a charge rule made over another; the rules as they are posted.
-pub mod allowance;
+pub mod allowances;
 pub mod exclusion;
 pub mod fault;
 pub mod grandfathering;
+mod listing;
 pub mod posted;
 pub mod ramp_in;
 mod table;

@@ -1,9 +1,10 @@
 // The rules as they are posted, each by its name, and one type for all of them.
+ghost use mathlib.Core.List.{[]};
 ghost use mathlib.Core.Path.{_≡_};
-ghost use lib.ListN.{replicate, set, take};
+ghost use lib.ListN.{replicate, set};
 ghost use Rattle.std.specs.Results.{Cases};
 ghost use Rattle.questions.specs.Questions.{acceptance, told};
-ghost use Rattle.concessions.specs.Concessions.{Entered, allowance-refusal, mark-refusal};
+ghost use Rattle.concessions.specs.Concessions.{Entered, allowance-refusal, listed, mark-refusal};
 ghost use Rattle.concessions.specs.Faults.{concession-fault};
 ghost use Rattle.concessions.specs.Posted.{posted-code, posted-quantity};
 use crate::exclusion::Exclusion;
@@ -39,7 +40,7 @@ pub fn posted_market_services() -> PostedMarketServices
 pub fn posted_system_operations() -> PostedSystemOperations
     ensures percents { λ r. ⌜ r .percents ≡ replicate 64 0 ⌝ }
     ensures marks { λ r. ⌜ r .below .marks ≡ replicate 64 0 ⌝ }
-    ensures allowances { λ r. ⌜ r .below .below .count ≡ 0 ⌝ }
+    ensures allowances { λ r. ⌜ listed (r .below .below .allowances) ≡ [] ⌝ }
 {
     RampIn::new(Exclusion::new(Grandfathering::new(SystemOperations {})))
 }
@@ -64,8 +65,8 @@ impl<R> Exclusion<Grandfathering<R>> {
         resource: u8,
         allowance: u64,
     ) -> Result<(), ConcessionFault>
-        ensures answered { λ r. ⌜ told concession-fault r ≡ acceptance (allowance-refusal (take (now (self .entry) .below .count) (now (self .entry) .below .listed)) coordinator resource allowance) ⌝ }
-        ensures table { λ r. ⌜ Cases r (λ _. Entered coordinator resource allowance (take (now (self .entry) .below .count) (now (self .entry) .below .listed)) (take (now (self .exit) .below .count) (now (self .exit) .below .listed))) (λ _. now (self .exit) ≡ now (self .entry)) ⌝ }
+        ensures answered { λ r. ⌜ told concession-fault r ≡ acceptance (allowance-refusal (listed (now (self .entry) .below .allowances)) coordinator resource allowance) ⌝ }
+        ensures table { λ r. ⌜ Cases r (λ _. Entered coordinator resource allowance (listed (now (self .entry) .below .allowances)) (listed (now (self .exit) .below .allowances))) (λ _. now (self .exit) ≡ now (self .entry)) ⌝ }
         ensures rule { λ _. ⌜ now (self .exit) .below .below ≡ now (self .entry) .below .below ⌝ }
         ensures marks { λ _. ⌜ now (self .exit) .marks ≡ now (self .entry) .marks ⌝ }
     {
@@ -80,8 +81,8 @@ impl<R> RampIn<Exclusion<Grandfathering<R>>> {
         resource: u8,
         allowance: u64,
     ) -> Result<(), ConcessionFault>
-        ensures answered { λ r. ⌜ told concession-fault r ≡ acceptance (allowance-refusal (take (now (self .entry) .below .below .count) (now (self .entry) .below .below .listed)) coordinator resource allowance) ⌝ }
-        ensures table { λ r. ⌜ Cases r (λ _. Entered coordinator resource allowance (take (now (self .entry) .below .below .count) (now (self .entry) .below .below .listed)) (take (now (self .exit) .below .below .count) (now (self .exit) .below .below .listed))) (λ _. now (self .exit) ≡ now (self .entry)) ⌝ }
+        ensures answered { λ r. ⌜ told concession-fault r ≡ acceptance (allowance-refusal (listed (now (self .entry) .below .below .allowances)) coordinator resource allowance) ⌝ }
+        ensures table { λ r. ⌜ Cases r (λ _. Entered coordinator resource allowance (listed (now (self .entry) .below .below .allowances)) (listed (now (self .exit) .below .below .allowances))) (λ _. now (self .exit) ≡ now (self .entry)) ⌝ }
         ensures rule { λ _. ⌜ now (self .exit) .below .below .below ≡ now (self .entry) .below .below .below ⌝ }
         ensures marks { λ _. ⌜ now (self .exit) .below .marks ≡ now (self .entry) .below .marks ⌝ }
         ensures percents { λ _. ⌜ now (self .exit) .percents ≡ now (self .entry) .percents ⌝ }

@@ -163,10 +163,7 @@ fn on_book<'a>(
     }
 }
 
-fn named<'a>(
-    name: &'a str,
-    words: &mut SplitWhitespace<'a>,
-) -> Result<Command<'a>, Malformed<'a>> {
+fn named<'a>(name: &'a str, words: &mut SplitWhitespace<'a>) -> Result<Command<'a>, Malformed<'a>> {
     match name {
         "check" => Ok(Command::OnSheet(SheetCommand::Check, next(words, "SHEET")?)),
         "post" => post(words),

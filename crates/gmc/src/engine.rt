@@ -99,10 +99,12 @@ impl Engine {
     ) -> Result<(u64, u64), BookFault> {
         match charge {
             Charge::MarketServices => {
-                self.book.quote(&self.market_services, coordinator, rate, sheet)
+                self.book
+                    .quote(&self.market_services, coordinator, rate, sheet)
             }
             Charge::SystemOperations => {
-                self.book.quote(&self.system_operations, coordinator, rate, sheet)
+                self.book
+                    .quote(&self.system_operations, coordinator, rate, sheet)
             }
             Charge::BidSegment => self.book.quote(&BidSegment {}, coordinator, rate, sheet),
             Charge::Tor => self.book.quote(&Tor {}, coordinator, rate, sheet),
@@ -126,7 +128,13 @@ impl Engine {
         match command {
             BookCommand::Adjust { coordinator, cents } => {
                 let amount = cents;
-                self.enter("adjust", Entry::Adjust { coordinator, amount })
+                self.enter(
+                    "adjust",
+                    Entry::Adjust {
+                        coordinator,
+                        amount,
+                    },
+                )
             }
             BookCommand::Pay {
                 side,
@@ -161,10 +169,16 @@ impl Engine {
     fn concession(&mut self, entry: ConcessionEntry) -> Outcome {
         match entry {
             ConcessionEntry::MarketServicesExclusion { coordinator, mark } => {
-                Outcome::Concession("exclusion", self.market_services.set_mark(coordinator, mark))
+                Outcome::Concession(
+                    "exclusion",
+                    self.market_services.set_mark(coordinator, mark),
+                )
             }
             ConcessionEntry::SystemOperationsExclusion { coordinator, mark } => {
-                Outcome::Concession("exclusion", self.system_operations.set_mark(coordinator, mark))
+                Outcome::Concession(
+                    "exclusion",
+                    self.system_operations.set_mark(coordinator, mark),
+                )
             }
             ConcessionEntry::RampIn {
                 coordinator,
@@ -179,7 +193,8 @@ impl Engine {
                 allowance,
             } => Outcome::Concession(
                 "grandfathering",
-                self.system_operations.set_allowance(coordinator, resource, allowance),
+                self.system_operations
+                    .set_allowance(coordinator, resource, allowance),
             ),
         }
     }

@@ -4,7 +4,6 @@ ghost use Prim.Native.Nat.{_<_};
 ghost use Rattle.std.specs.Options.{Cases as BySome};
 ghost use Rattle.gmc.specs.Hexadecimal.{byte-of, digit-of};
 use crate::malformed::Malformed;
-
 use std::alloc::Global;
 use std::fs::File;
 use std::io;

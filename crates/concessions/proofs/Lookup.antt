@@ -13,7 +13,7 @@ use Rattle.std.proofs.shelf.Tests.{cases-bool, cases-lt, lt-ltb, le-ltb, le-leb
 use Rattle.std.specs.declared.option.Option.the-variants.{Some, None}
 use Rattle.questions.specs.Questions.{no-at}
 use Rattle.questions.proofs.Asked.{ask-yes, ask-no}
-use Rattle.concessions.specs.declared.allowance.Allowance.{Allowance}
+use Rattle.concessions.specs.declared.allowances.Allowance.{Allowance}
 use Rattle.concessions.specs.Concessions.{lists, is-listed, allowance-of, allowance-refusal, range-refusal, Entered}
 use Rattle.concessions.specs.Places.{place}
 
