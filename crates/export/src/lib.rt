@@ -18,7 +18,13 @@ use yearbook::fault::BookFault;
 // The bytes of a sheet of 2,048 rows.
 const FULL_SHEET: usize = 20_482;
 
-fn post(book: &mut YearBook, code: usize, day: u16, rate: u32, sheet: &[u8]) -> Result<u64, BookFault> {
+fn post(
+    book: &mut YearBook,
+    code: usize,
+    day: u16,
+    rate: u32,
+    sheet: &[u8],
+) -> Result<u64, BookFault> {
     match code {
         0 => book.post(&posted_market_services(), day, rate, sheet),
         1 => book.post(&posted_system_operations(), day, rate, sheet),
