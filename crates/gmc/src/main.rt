@@ -59,12 +59,12 @@ fn do_journal<R: Read + Drop>(rt: &LibcRuntime, journal: R) -> io::Result<bool> 
     Ok(well_formed)
 }
 
-fn do_file(rt: &LibcRuntime, path: &str) -> io::Result<bool> {
+fn do_file(rt: &LibcRuntime, path: &str) -> Result<bool, AnyError> {
     match File::open(rt, path) {
-        Ok(file) => do_journal(rt, file),
+        Ok(file) => Ok(do_journal(rt, file)?),
         Err(error) => {
-            eprintln!(rt, "gmc: cannot read journal {}", Quoted(path))?;
-            Err(error)
+            let journal = Quoted(path);
+            Err(format!(rt.alloc(), "cannot read journal {journal}: {error}")?.into())
         }
     }
 }
