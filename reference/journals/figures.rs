@@ -108,7 +108,7 @@ impl Journal {
 
     /// Charge and minimum of an assessment.
     pub fn assessment(&mut self) -> (u64, u64) {
-        let flagged = self.session.book.flagged() as u64;
+        let flagged = self.engine.book.flagged() as u64;
         let charge = match self.random.below(14) {
             0 => 0,
             1 => 1,

@@ -1,12 +1,12 @@
 //! A journal in the making: its text, and the state that its lines lead to.
 
 use crate::random::Random;
-use reference::session::{Outcome, Session};
+use reference::engine::{Outcome, Engine};
 use std::fs;
 
 pub struct Journal {
     pub random: Random,
-    pub session: Session,
+    pub engine: Engine,
     /// The days that this journal posts on most.
     pub days: Vec<u16>,
     /// Percent of lines that are spoiled.
@@ -30,7 +30,7 @@ impl Journal {
         let end: &[u8] = if random.chance(4) { b"\r\n" } else { b"\n" };
         Journal {
             random,
-            session: Session::default(),
+            engine: Engine::default(),
             days,
             spoiled,
             odd,
@@ -43,22 +43,22 @@ impl Journal {
     }
 
     pub fn count(&self) -> usize {
-        self.session.book.count()
+        self.engine.book.count()
     }
 
     pub fn market(&self, coordinator: usize) -> i128 {
-        self.session.book.balances(coordinator).map_or(0, |balances| balances.0)
+        self.engine.book.balances(coordinator).map_or(0, |balances| balances.0)
     }
 
     pub fn rc(&self, coordinator: usize) -> i128 {
-        self.session.book.balances(coordinator).map_or(0, |balances| balances.1)
+        self.engine.book.balances(coordinator).map_or(0, |balances| balances.1)
     }
 
     /// Adds a line as it is and does it.
     pub fn put(&mut self, line: &[u8]) -> Outcome {
         self.text.extend_from_slice(line);
         self.text.extend_from_slice(self.end);
-        self.session.line(line)
+        self.engine.line(line)
     }
 
     /// Adds a line of words.

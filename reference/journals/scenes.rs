@@ -5,7 +5,7 @@ use crate::journal::Journal;
 use crate::sheets::{encode, Rows};
 use reference::book::{MOST_AMOUNT, MOST_RATE};
 use reference::charges::{Charge, CHARGES};
-use reference::session::Outcome;
+use reference::engine::Outcome;
 
 const CALLS: [(usize, Call); 14] = [
     (8, Call::Check),
@@ -82,7 +82,7 @@ fn defaults(journal: &mut Journal) {
         let open = journal.open_of(count);
         journal.say(&open);
         for _ in 0..3 {
-            if !journal.session.book.is_assessed() {
+            if !journal.engine.book.is_assessed() {
                 turn(journal, Call::Assess);
             }
         }

@@ -8,6 +8,6 @@ pub mod charges;
 pub mod command;
 pub mod concessions;
 pub mod refusal;
-pub mod session;
+pub mod engine;
 pub mod sheet;
 pub mod words;

@@ -1,6 +1,6 @@
 //! Does the commands of a journal and prints what each is answered, without reasons.
 
-use reference::session::{Outcome, Session};
+use reference::engine::{Outcome, Engine};
 use std::io::{self, Read, Write};
 use std::process::ExitCode;
 use std::{env, fs};
@@ -33,9 +33,9 @@ fn run() -> io::Result<usize> {
             bytes
         }
     };
-    let mut session = Session::default();
+    let mut engine = Engine::default();
     let outcomes: Vec<Outcome> =
-        journal.split(|byte| *byte == b'\n').map(|line| session.line(line)).collect();
+        journal.split(|byte| *byte == b'\n').map(|line| engine.line(line)).collect();
     let answers: String = outcomes
         .iter()
         .enumerate()

@@ -20,7 +20,7 @@ use sheet::sheet::Sheet;
 const MOST_BALANCE: u64 = 1_000_000_000_000_000;
 
 // Question 9: is every coordinator on the sheet below the count?
-pub fn check_coordinators(sheet: Sheet<'_>, count: usize) -> Result<(), BookFault>
+pub(crate) fn check_coordinators(sheet: Sheet<'_>, count: usize) -> Result<(), BookFault>
     ensures { λ r. ⌜ told book-fault r ≡ acceptance (coordinators-refusal count (sheet .entry .bytes .now)) ⌝ }
 {
     for row in 0..sheet.len() {
@@ -32,7 +32,12 @@ pub fn check_coordinators(sheet: Sheet<'_>, count: usize) -> Result<(), BookFaul
 }
 
 // The lines of the first `count` coordinators, with zeros behind.
-pub fn lines_of<R: ChargeRule>(rule: &R, rate: u32, sheet: Sheet<'_>, count: usize) -> [u64; 64]
+pub(crate) fn lines_of<R: ChargeRule>(
+    rule: &R,
+    rate: u32,
+    sheet: Sheet<'_>,
+    count: usize,
+) -> [u64; 64]
     requires cheap { ⌜ rate ≤ 10000000 ⌝ }
     requires few { ⌜ count ≤ 64 ⌝ }
     ensures long { λ r. ⌜ length r ≡ 64 ⌝ }
@@ -47,7 +52,7 @@ pub fn lines_of<R: ChargeRule>(rule: &R, rate: u32, sheet: Sheet<'_>, count: usi
 }
 
 // Question 11: does every market balance stay within bounds with its line added?
-pub fn check_balances(table: &[Account], lines: &[u64]) -> Result<(), BookFault>
+pub(crate) fn check_balances(table: &[Account], lines: &[u64]) -> Result<(), BookFault>
     requires few { ⌜ length (now lines) ≤ length (now table) ⌝ }
     requires low { ⌜ ((k : ℕ) → k < length (now lines) → natAbs (getD (now table) k empty-account .market) ≤ 1000000000000000) ⌝ }
     requires small { ⌜ ((k : ℕ) → k < length (now lines) → getD (now lines) k 0 ≤ 819200000000) ⌝ }

@@ -13,7 +13,7 @@ use year::shares::spread_over;
 use year::shares::total_demand;
 
 // How many coordinators are flagged.
-pub fn count_flagged(flags: &[u8]) -> u64
+pub(crate) fn count_flagged(flags: &[u8]) -> u64
     requires { ⌜ length (now flags) ≤ 64 ⌝ }
     ensures value { λ r. ⌜ r ≡ countBy (λ flag. eqb flag 1) (now (flags .entry)) ⌝ }
     ensures few { λ r. ⌜ r ≤ 64 ⌝ }
@@ -28,7 +28,7 @@ pub fn count_flagged(flags: &[u8]) -> u64
 }
 
 // Is the amount zero, or is there demand to carry it?
-pub fn can_spread(amount: u64, demands: &[u32]) -> bool
+pub(crate) fn can_spread(amount: u64, demands: &[u32]) -> bool
     requires { ⌜ total (now demands) ≤ 3200000000 ⌝ }
     ensures { λ r. ⌜ r ≡ spreadable amount (now (demands .entry)) ⌝ }
 {
@@ -36,7 +36,7 @@ pub fn can_spread(amount: u64, demands: &[u32]) -> bool
 }
 
 // The minimum of each flagged coordinator, and zero for the others.
-pub fn minimums_of(flags: &[u8], minimum: u64) -> [u64; 64]
+pub(crate) fn minimums_of(flags: &[u8], minimum: u64) -> [u64; 64]
     requires { ⌜ length (now flags) ≤ 64 ⌝ }
     ensures long { λ r. ⌜ length r ≡ 64 ⌝ }
     ensures value { λ r. ⌜ take (length (now (flags .entry))) r ≡ map (λ flag. cond (eqb flag 1) minimum 0) (now (flags .entry)) ⌝ }
@@ -49,7 +49,7 @@ pub fn minimums_of(flags: &[u8], minimum: u64) -> [u64; 64]
 }
 
 // Each coordinator's share of the amount.
-pub fn shares_of(amount: u64, demands: &[u32]) -> [u64; 64]
+pub(crate) fn shares_of(amount: u64, demands: &[u32]) -> [u64; 64]
     requires few { ⌜ length (now demands) ≤ 64 ⌝ }
     requires amount { ⌜ amount ≤ 2000000000 ⌝ }
     requires demand { ⌜ total (now demands) ≤ 3200000000 ⌝ }

@@ -22,7 +22,7 @@ fn agree(demand: u32, flag: u8) -> bool
 }
 
 // Questions 6 and 7.
-pub fn check_terms(demands: &[u32], flags: &[u8]) -> Result<(), BookFault>
+pub(crate) fn check_terms(demands: &[u32], flags: &[u8]) -> Result<(), BookFault>
     ensures { λ r. ⌜ told book-fault r ≡ acceptance (open-refusal (record { demands = now (demands .entry); flags = now (flags .entry) })) ⌝ }
 {
     if !equally_long(demands.len(), flags.len()) {
@@ -37,7 +37,7 @@ pub fn check_terms(demands: &[u32], flags: &[u8]) -> Result<(), BookFault>
 }
 
 // The demands as the book keeps them, with zeros behind.
-pub fn kept_demands(demands: &[u32]) -> [u32; 64]
+pub(crate) fn kept_demands(demands: &[u32]) -> [u32; 64]
     requires { ⌜ length (now demands) ≤ 64 ⌝ }
     ensures { λ r. ⌜ take (length (now (demands .entry))) r ≡ now (demands .entry) ⌝ }
 {
@@ -47,7 +47,7 @@ pub fn kept_demands(demands: &[u32]) -> [u32; 64]
 }
 
 // The flags, likewise.
-pub fn kept_flags(flags: &[u8]) -> [u8; 64]
+pub(crate) fn kept_flags(flags: &[u8]) -> [u8; 64]
     requires { ⌜ length (now flags) ≤ 64 ⌝ }
     ensures { λ r. ⌜ take (length (now (flags .entry))) r ≡ now (flags .entry) ⌝ }
 {

@@ -10,7 +10,7 @@ use std::collections::BTreeMap;
 use std::str;
 
 #[derive(Clone, Default)]
-pub struct Session {
+pub struct Engine {
     pub book: Book,
     pub tables: Tables,
 }
@@ -40,7 +40,7 @@ impl Outcome {
     }
 }
 
-impl Session {
+impl Engine {
     pub fn line(&mut self, line: &[u8]) -> Outcome {
         let Ok(text) = str::from_utf8(line) else {
             return Outcome::Malformed;
