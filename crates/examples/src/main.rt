@@ -1,0 +1,18 @@
+// Runs the worked examples through the public calls, and prints of each what came out and whether that was expected.
+mod quotes;
+mod rows;
+mod sheets;
+mod verdict;
+mod years;
+
+use std::error::AnyError;
+
+fn run(rt: &LibcRuntime) -> Result<(), AnyError> {
+    quotes::show(rt)?;
+    years::show(rt)?;
+    sheets::show(rt)
+}
+
+fn main(rt: LibcRuntime) -> Result<(), AnyError> {
+    rt.report(run(&rt))
+}
