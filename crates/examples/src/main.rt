@@ -5,7 +5,13 @@ mod sheets;
 mod verdict;
 mod years;
 
+ghost use Rattle.examples.specs.Examples.{WorkedExamples};
 use std::error::AnyError;
+
+// The definitions give what the worked examples say.
+pub fn examples_hold()
+    ensures { λ _. ⌜ WorkedExamples ⌝ }
+{}
 
 fn run(rt: &LibcRuntime) -> Result<(), AnyError> {
     quotes::show(rt)?;

@@ -1,4 +1,7 @@
 // Quotes: the charge quantity and the cents of coordinator 0.
+mod table;
+
+use crate::quotes::table::EXAMPLES;
 use crate::rows::Row;
 use crate::rows::sheet_of;
 use crate::verdict::verdict;
@@ -21,81 +24,42 @@ use yearbook::book::YearBook;
 use yearbook::fault::BookFault;
 use yearbook::fault::BookFaultDisplay;
 
-// What is quoted, with the concession of coordinator 0.
+// The concession of coordinator 0, with its percent, mark or allowance.
 #[derive(Clone, Copy)]
-enum Charge {
-    MarketServices,
-    SystemOperations,
+pub enum Concession {
+    None,
     RampIn(u8),
     Exclusion(u8),
     Grandfathering(u64),
+}
+
+#[derive(Clone, Copy)]
+pub enum Charge {
+    MarketServices,
+    SystemOperations(Concession),
     BidSegment,
     Tor,
     TradeFee,
 }
 
 #[derive(Clone, Copy)]
-struct QuoteExample {
-    name: &'static str,
-    charge: Charge,
-    rows: &'static [Row],
-    rate: u32,
-    quantity: u64,
-    cents: u64,
+pub struct QuoteExample {
+    pub name: &'static str,
+    pub charge: Charge,
+    pub rows: &'static [Row],
+    pub rate: u32,
+    pub quantity: u64,
+    pub cents: u64,
 }
 
-const EXAMPLES: [QuoteExample; 2] = [
-    QuoteExample {
-        name: "market services, kinds 1 and 3",
-        charge: Charge::MarketServices,
-        rows: &[
-            Row {
-                resource: 7,
-                part: 0,
-                kind: 1,
-                quantity: 100_000,
-            },
-            Row {
-                resource: 7,
-                part: 0,
-                kind: 3,
-                quantity: -10_000,
-            },
-        ],
-        rate: 836,
-        quantity: 11_000_000,
-        cents: 920,
-    },
-    QuoteExample {
-        name: "market services, kinds 3 and 5",
-        charge: Charge::MarketServices,
-        rows: &[
-            Row {
-                resource: 7,
-                part: 0,
-                kind: 3,
-                quantity: 30_000,
-            },
-            Row {
-                resource: 7,
-                part: 0,
-                kind: 5,
-                quantity: -10_000,
-            },
-        ],
-        rate: 836,
-        quantity: 2_000_000,
-        cents: 167,
-    },
-];
-
-fn system_operations(charge: Charge) -> PostedSystemOperations {
+// The grandfathered resource is 7.
+fn system_operations(concession: Concession) -> PostedSystemOperations {
     let mut rule = posted_system_operations();
-    let _ = match charge {
-        Charge::RampIn(percent) => rule.set_percent(0, percent),
-        Charge::Exclusion(mark) => rule.set_mark(0, mark),
-        Charge::Grandfathering(allowance) => rule.set_allowance(0, 7, allowance),
-        _ => Ok(()),
+    let _ = match concession {
+        Concession::RampIn(percent) => rule.set_percent(0, percent),
+        Concession::Exclusion(mark) => rule.set_mark(0, mark),
+        Concession::Grandfathering(allowance) => rule.set_allowance(0, 7, allowance),
+        Concession::None => Ok(()),
     };
     rule
 }
@@ -108,22 +72,28 @@ fn quote(
 ) -> Result<(u64, u64), BookFault> {
     match charge {
         Charge::MarketServices => book.quote(&posted_market_services(), 0, rate, sheet),
+        Charge::SystemOperations(concession) => book.quote(
+            &system_operations(concession),
+            0,
+            rate,
+            sheet,
+        ),
         Charge::BidSegment => book.quote(&BidSegment {}, 0, rate, sheet),
         Charge::Tor => book.quote(&Tor {}, 0, rate, sheet),
         Charge::TradeFee => book.quote(&TradeFee {}, 0, rate, sheet),
-        _ => book.quote(&system_operations(charge), 0, rate, sheet),
     }
 }
 
 fn show_quote(rt: &LibcRuntime, book: &YearBook, example: QuoteExample) -> Result<(), AnyError> {
     let name = example.name;
+    let rate = example.rate;
     let sheet = sheet_of(rt.alloc(), example.rows)?;
-    match quote(book, example.charge, example.rate, sheet.as_slice()) {
+    match quote(book, example.charge, rate, sheet.as_slice()) {
         Ok((quantity, cents)) => {
             let met = quantity == example.quantity && cents == example.cents;
             println!(
                 rt,
-                "{name}: quantity {quantity}, {cents} cents: {}",
+                "{name}: quantity {quantity}, at rate {rate} {cents} cents: {}",
                 verdict(met)
             )?;
         }

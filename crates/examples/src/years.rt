@@ -1,5 +1,8 @@
-// Years in a new book: the answer to the last entry, and the balances that the entries leave.
+// Years in a new book: the first refusal if there is one, and the balances that the entries leave.
+mod table;
+
 use crate::verdict::verdict;
+use crate::years::table::EXAMPLES;
 use charges::trade_fee::TradeFee;
 use charges::trade_fee::TradeFeeRule;
 use journal::entry::Answer;
@@ -10,62 +13,16 @@ use std::error::AnyError;
 use yearbook::book::YearBook;
 use yearbook::fault::BookFault;
 use yearbook::fault::BookFaultDisplay;
-use yearbook::side::Side;
 
-struct YearExample {
-    name: &'static str,
-    demands: &'static [u32],
-    flags: &'static [u8],
-    entries: &'static [Entry<'static, TradeFee>],
-    question: Option<u8>,
-    market: i64,
-    rc: &'static [u64],
+pub struct YearExample {
+    pub name: &'static str,
+    pub demands: &'static [u32],
+    pub flags: &'static [u8],
+    pub entries: &'static [Entry<'static, TradeFee>],
+    pub question: Option<u8>,
+    pub market: i64,
+    pub rc: &'static [u64],
 }
-
-// One trade side of coordinator 0.
-const TRADE: [u8; 12] = [0, 1, 0, 7, 1, 1, 0, 40, 0, 0, 0, 0];
-
-const ASSESSED: Entry<'static, TradeFee> = Entry::Assess {
-    charge: 1000,
-    minimum: 0,
-};
-
-const EXAMPLES: [YearExample; 2] = [
-    YearExample {
-        name: "1,000 over demands 1, 1, 1",
-        demands: &[1, 1, 1],
-        flags: &[0, 0, 0],
-        entries: &[Entry::Assess {
-            charge: 1000,
-            minimum: 0,
-        }],
-        question: None,
-        market: 0,
-        rc: &[333, 333, 334],
-    },
-    YearExample {
-        name: "a day posted twice",
-        demands: &[1, 1, 1],
-        flags: &[0, 0, 0],
-        entries: &[
-            Entry::Post {
-                rule: &TradeFee {},
-                day: 1,
-                rate: 5000,
-                sheet: &TRADE,
-            },
-            Entry::Post {
-                rule: &TradeFee {},
-                day: 1,
-                rate: 5000,
-                sheet: &TRADE,
-            },
-        ],
-        question: Some(10),
-        market: 50,
-        rc: &[0, 0, 0],
-    },
-];
 
 // The first refusal among the answers.
 fn refusal(answers: &[Result<Answer, BookFault>]) -> Option<BookFault> {
