@@ -29,7 +29,7 @@ abbrev pub is-listed : ℕ → ℕ → List Allowance → Bool
 is-listed coordinator resource [] = false
 is-listed coordinator resource (a ∷ entries) = lists coordinator resource a || is-listed coordinator resource entries
 
--- zero where the pair is not entries
+-- zero where the pair is not listed
 abbrev pub allowance-of : ℕ → ℕ → List Allowance → ℕ
 allowance-of coordinator resource [] = 0
 allowance-of coordinator resource (a ∷ entries) = cond (lists coordinator resource a) (a .quantity) (allowance-of coordinator resource entries)
@@ -62,7 +62,7 @@ allowance-refusal entries coordinator resource allowance =
     range-refusal 819200000000 coordinator allowance
     (ask (is-listed coordinator resource entries || ltb (length entries) 128) 19 0 None)
 
--- the list after an entry for a pair, as the look-up and the number entries tell it
+-- the list after an entry for a pair, as the look-up and the number listed tell it
 pub record Entered (coordinator resource allowance : ℕ) (before after : List Allowance) : Type 0 where
   pub allowed : allowance-of coordinator resource after ≡ allowance
   pub others-allowed : (c r : ℕ) → (eqb coordinator c && eqb resource r) ≡ false → allowance-of c r after ≡ allowance-of c r before
