@@ -6,10 +6,10 @@ use Rattle.sheet.specs.Rows.{row_count}
 use Rattle.sheet.proofs.FirstNo.{first_no_of, first_asked_no_of}
 use Rattle.sheet.proofs.check.check.Goals as goal
 
-pub returns-in-err-count : goal.returns-in-err-count
+pub returns-in_err-count : goal.returns-in_err-count
 unfolding ask first sheet_refusal
-returns-in-err-count c =
-    let v : told sheet_fault c.from-residual.result ≡ answer (sheet_refusal c.args.bytes.now) (row_count c.args.bytes.now) = search rules in
+returns-in_err-count c =
+    let v : told sheet_fault c.from_residual.result ≡ answer (sheet_refusal c.args.bytes.now) (row_count c.args.bytes.now) = search rules in
     record { answered = v; meaning = first_no_of c.args.bytes.now _ v; asked = first_asked_no_of c.args.bytes.now _ v }
 
 pub returns-then-bytes-count : goal.returns-then-bytes-count
@@ -18,14 +18,14 @@ returns-then-bytes-count c =
     let v : Err (no_at 2 0) ≡ answer (sheet_refusal c.args.bytes.now) (row_count c.args.bytes.now) = search rules in
     record { answered = v; meaning = first_no_of c.args.bytes.now _ v; asked = first_asked_no_of c.args.bytes.now _ v }
 
-pub returns-in-err-check-rows : goal.returns-in-err-check-rows
+pub returns-in_err-check_rows : goal.returns-in_err-check_rows
 unfolding ask first sheet_refusal
-returns-in-err-check-rows c =
-    let v : told sheet_fault c.from-residual-in-err-check-rows.result ≡ answer (sheet_refusal c.args.bytes.now) (row_count c.args.bytes.now) = search rules in
+returns-in_err-check_rows c =
+    let v : told sheet_fault c.from_residual-in_err-check_rows.result ≡ answer (sheet_refusal c.args.bytes.now) (row_count c.args.bytes.now) = search rules in
     record { answered = v; meaning = first_no_of c.args.bytes.now _ v; asked = first_asked_no_of c.args.bytes.now _ v }
 
 pub returns : goal.returns
 unfolding ask first sheet_refusal
 returns c =
-    let v : Ok c.in-ok-count.count ≡ answer (sheet_refusal c.args.bytes.now) (row_count c.args.bytes.now) = search rules in
+    let v : Ok c.in_ok-count.count ≡ answer (sheet_refusal c.args.bytes.now) (row_count c.args.bytes.now) = search rules in
     record { answered = v; meaning = first_no_of c.args.bytes.now _ v; asked = first_asked_no_of c.args.bytes.now _ v }

@@ -7,13 +7,13 @@ pub returns-then-not-ascending : goal.returns-then-not-ascending
 unfolding ask row_questions
 returns-then-not-ascending c = search rules
 
-pub returns-then-not-in-range : goal.returns-then-not-in-range
+pub returns-then-not-in_range : goal.returns-then-not-in_range
 unfolding ask row_questions
-returns-then-not-in-range c = search rules
+returns-then-not-in_range c = search rules
 
-pub returns-then-unsigned-abs-gt-MOST-KWH : goal.returns-then-unsigned-abs-gt-MOST-KWH
+pub returns-then-unsigned_abs-gt-MOST_KWH : goal.returns-then-unsigned_abs-gt-MOST_KWH
 unfolding ask row_questions
-returns-then-unsigned-abs-gt-MOST-KWH c = search rules
+returns-then-unsigned_abs-gt-MOST_KWH c = search rules
 
 pub returns : goal.returns
 unfolding ask row_questions
