@@ -5,9 +5,9 @@ use Rattle.std.proofs.lemmas.List.{length_push, get_or-set_same, get_or-set_othe
 use Rattle.std.proofs.lemmas.List.Elements.{filter_more}
 use Rattle.std.proofs.lemmas.Bool.{cases_eq, eq-eqb, ne_eqb, lt-ltb, ltb-false}
 use Rattle.sheet.specs.declared.row.Row.{Row}
-use Rattle.sheet.specs.Rows.{row_count, row_at, rows, own_rows, resource_rows, pair_rows}
+use Rattle.sheet.specs.Rows.{row_count, row_at, rows, own_rows, resource_rows, pair_rows, of_pair}
 use Rattle.sheet.specs.Questions.{Accepted}
-use Rattle.sheet.proofs.Pairs.{length_rows, row_by_place, no_row, of_pair, pair_kept, pair_accepted, own_few}
+use Rattle.sheet.proofs.Pairs.{length_rows, row_by_place, no_row, pair_kept, pair_accepted, own_few}
 use Rattle.charges.specs.Sums.{over}
 use Rattle.charges.specs.Rules.{Bounded, Meaning, quantity_of}
 use Rattle.charges.specs.SumsLemmas.{over_le, over_times, over_more, over_ones, ones, groups_le}

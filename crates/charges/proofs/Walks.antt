@@ -6,10 +6,10 @@ use Rattle.std.proofs.lemmas.List.Elements.{filter_more}
 use Rattle.std.proofs.ByRecursion.{all_kept_by, All-take}
 use Rattle.std.proofs.lemmas.List.Sums.{fold_push, length-filter, count_by-le-length}
 use Rattle.sheet.specs.declared.row.Row.{Row}
-use Rattle.sheet.specs.Rows.{row_count, row_at, rows, own_rows, pair_rows}
+use Rattle.sheet.specs.Rows.{row_count, row_at, rows, own_rows, pair_rows, of_pair}
 use Rattle.sheet.specs.Questions.{Accepted}
 use Rattle.sheet.specs.Sheets.{Passes}
-use Rattle.sheet.proofs.Pairs.{length_rows, row_by_place, no_row, rows_pass, of_pair, pair_kept, pair_few}
+use Rattle.sheet.proofs.Pairs.{length_rows, row_by_place, no_row, rows_pass, pair_kept, pair_few}
 use Rattle.charges.specs.Running.{Running, after, run, Reached, walk_at}
 use Rattle.charges.specs.declared.walk.Walk.{Walk}
 use Rattle.charges.specs.Reached.{FiguresBounded, reached_low}

@@ -24,7 +24,7 @@ fn resources_of(sheet: Sheet<'_>, coordinator: usize) -> [bool; 256]
 
 // A resource without rows has quantity zero under every rule, so only the others cost a walk.
 pub fn coordinator_quantity<R: ChargeRule>(rule: &R, sheet: Sheet<'_>, coordinator: usize) -> u64
-    ensures value { result ≡ quantity_of (meaning (code rule.now) (quantity rule.now)) coordinator (own_rows coordinator (sheet_rows sheet.entry)) }
+    ensures value { result ≡ quantity_of (meaning (R.code rule.now) (R.quantity rule.now)) coordinator (own_rows coordinator (sheet_rows sheet.entry)) }
     ensures low { result ≤ 819200000000 }
 {
     let present = resources_of(sheet, coordinator);

@@ -26,7 +26,7 @@ fn accepted(answer: Result<(), BookFault>) -> Result<Answer, BookFault>
 
 // Calls the book as the entry says.
 fn call<R: ChargeRule>(book: &mut YearBook, entry: &Entry<'_, R>) -> Result<Answer, BookFault>
-    ensures called { Taken (book_of book.old) (call_of code quantity entry.now) (answer_to (book_of book.old) (call_of code quantity entry.now)) (book_of book.new) (told book_fault result) }
+    ensures called { Taken (book_of book.old) (call_of R.code R.quantity entry.now) (answer_to (book_of book.old) (call_of R.code R.quantity entry.now)) (book_of book.new) (told book_fault result) }
     ensures unaltered { Unaltered result book.old book.new }
 {
     match entry {
@@ -56,9 +56,9 @@ fn call<R: ChargeRule>(book: &mut YearBook, entry: &Entry<'_, R>) -> Result<Answ
 // Takes one entry. If the book was what an opening and some calls leave, it then is what these and the entry leave, and
 // the year law holds of it.
 pub fn enter<R: ChargeRule>(book: &mut YearBook, entry: &Entry<'_, R>) -> Result<Answer, BookFault>
-    ensures taken { Taken (book_of book.old) (call_of code quantity entry.now) (answer_to (book_of book.old) (call_of code quantity entry.now)) (book_of book.new) (told book_fault result) }
+    ensures taken { Taken (book_of book.old) (call_of R.code R.quantity entry.now) (answer_to (book_of book.old) (call_of R.code R.quantity entry.now)) (book_of book.new) (told book_fault result) }
     ensures unaltered { Unaltered result book.old book.new }
-    ensures law { Continued (book_of book.old) (call_of code quantity entry.now ∷ []) (book_of book.new) }
+    ensures law { Continued (book_of book.old) (call_of R.code R.quantity entry.now ∷ []) (book_of book.new) }
 {
     call(book, entry)
 }
@@ -69,9 +69,9 @@ pub fn enter_all<R: ChargeRule>(
     entries: &[Entry<'_, R>],
     answers: &mut [Result<Answer, BookFault>],
 )
-    ensures left { book_of book.new ≡ run (book_of book.old) (map (call_of code quantity) entries.now) }
-    ensures answered { map (told book_fault) answers.new ≡ written (map (told book_fault) answers.old) (answers_to (book_of book.old) (map (call_of code quantity) entries.now)) }
-    ensures law { Continued (book_of book.old) (map (call_of code quantity) entries.now) (book_of book.new) }
+    ensures left { book_of book.new ≡ run (book_of book.old) (map (call_of R.code R.quantity) entries.now) }
+    ensures answered { map (told book_fault) answers.new ≡ written (map (told book_fault) answers.old) (answers_to (book_of book.old) (map (call_of R.code R.quantity) entries.now)) }
+    ensures law { Continued (book_of book.old) (map (call_of R.code R.quantity) entries.now) (book_of book.new) }
 {
     for i in 0..entries.len() {
         let answer = enter(book, &entries[i]);
@@ -83,9 +83,9 @@ pub fn enter_all<R: ChargeRule>(
 
 // Opens the book for a year. A refused opening leaves it.
 pub fn open_year(book: &mut YearBook, demands: &[u32], flags: &[u8]) -> Result<(), BookFault>
-    ensures opened { told book_fault result ≡ acceptance (open_refusal (record { demands = demands.entry.now; flags = flags.now })) }
+    ensures opened { told book_fault result ≡ acceptance (open_refusal (record { demands = demands.now; flags = flags.now })) }
     ensures unaltered { Unaltered result book.old book.new }
-    ensures law { Kept (open_refusal (record { demands = demands.entry.now; flags = flags.now })) (record { demands = demands.entry.now; flags = flags.now }) [] (book_of book.old) (book_of book.new) }
+    ensures law { Kept (open_refusal (record { demands = demands.now; flags = flags.now })) (record { demands = demands.now; flags = flags.now }) [] (book_of book.old) (book_of book.new) }
 {
     book.open(demands, flags)
 }
@@ -98,10 +98,10 @@ pub fn keep_year<R: ChargeRule>(
     entries: &[Entry<'_, R>],
     answers: &mut [Result<Answer, BookFault>],
 ) -> Result<(), BookFault>
-    ensures opened { told book_fault result ≡ acceptance (open_refusal (record { demands = demands.entry.now; flags = flags.now })) }
+    ensures opened { told book_fault result ≡ acceptance (open_refusal (record { demands = demands.now; flags = flags.now })) }
     ensures unaltered { Unaltered result book.old book.new }
-    ensures law { Kept (open_refusal (record { demands = demands.entry.now; flags = flags.now })) (record { demands = demands.entry.now; flags = flags.now }) (map (call_of code quantity) entries.now) (book_of book.old) (book_of book.new) }
-    ensures answered { map (told book_fault) answers.new ≡ written (map (told book_fault) answers.old) (year_answers (open_refusal (record { demands = demands.entry.now; flags = flags.now })) (record { demands = demands.entry.now; flags = flags.now }) (map (call_of code quantity) entries.now)) }
+    ensures law { Kept (open_refusal (record { demands = demands.now; flags = flags.now })) (record { demands = demands.now; flags = flags.now }) (map (call_of R.code R.quantity) entries.now) (book_of book.old) (book_of book.new) }
+    ensures answered { map (told book_fault) answers.new ≡ written (map (told book_fault) answers.old) (year_answers (open_refusal (record { demands = demands.now; flags = flags.now })) (record { demands = demands.now; flags = flags.now }) (map (call_of R.code R.quantity) entries.now)) }
 {
     open_year(book, demands, flags)?;
     enter_all(book, entries, answers);

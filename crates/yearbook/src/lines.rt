@@ -39,7 +39,7 @@ pub(crate) fn lines_of<R: ChargeRule>(
     requires few { count ≤ 64 }
     ensures long { length result ≡ 64 }
     ensures low { (k : ℕ) → k < count → slice_index result k ≤ 819200000000 }
-    ensures value { take count result ≡ lines count (meaning (code rule.now) (quantity rule.now)) rate (sheet_rows sheet.entry) }
+    ensures value { take count result ≡ lines count (meaning (R.code rule.now) (R.quantity rule.now)) rate (sheet_rows sheet.entry) }
 {
     let mut lines = [0u64; 64];
     for coordinator in 0..count {

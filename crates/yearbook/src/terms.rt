@@ -20,7 +20,7 @@ fn agree(demand: u32, flag: u8) -> bool
 
 // Questions 6 and 7.
 pub(crate) fn check_terms(demands: &[u32], flags: &[u8]) -> Result<(), BookFault>
-    ensures { told book_fault result ≡ acceptance (open_refusal (record { demands = demands.entry.now; flags = flags.now })) }
+    ensures { told book_fault result ≡ acceptance (open_refusal (record { demands = demands.now; flags = flags.now })) }
 {
     if !equally_long(demands.len(), flags.len()) {
         return Err(BookFault::Lists);

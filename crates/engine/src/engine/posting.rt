@@ -27,9 +27,9 @@ fn post<'a, R: ChargeRule>(
     rate: u32,
     sheet: &'a [u8],
 ) -> Result<Answer, BookFault>
-    ensures taken { Taken (book_of book.old.book) (post_call (meaning (code rule.now) (quantity rule.now)) day rate sheet.now) (answer_to (book_of book.old.book) (post_call (meaning (code rule.now) (quantity rule.now)) day rate sheet.now)) (book_of book.new.book) (told book_fault result) }
+    ensures taken { Taken (book_of book.old.book) (post_call (meaning (R.code rule.now) (R.quantity rule.now)) day rate sheet.now) (answer_to (book_of book.old.book) (post_call (meaning (R.code rule.now) (R.quantity rule.now)) day rate sheet.now)) (book_of book.new.book) (told book_fault result) }
     ensures unaltered { Unaltered result book.old.book book.new.book }
-    ensures law { Continued (book_of book.old.book) (post_call (meaning (code rule.now) (quantity rule.now)) day rate sheet.now ∷ []) (book_of book.new.book) }
+    ensures law { Continued (book_of book.old.book) (post_call (meaning (R.code rule.now) (R.quantity rule.now)) day rate sheet.now ∷ []) (book_of book.new.book) }
 {
     let entry = Entry::Post {
         rule,

@@ -36,9 +36,9 @@ impl KeptBook {
 
     // Takes an entry.
     pub fn enter<R: ChargeRule>(&mut self, entry: &Entry<'_, R>) -> Result<Answer, BookFault>
-        ensures taken { Taken (book_of self.old.book) (call_of code quantity entry.now) (answer_to (book_of self.old.book) (call_of code quantity entry.now)) (book_of self.new.book) (told book_fault result) }
+        ensures taken { Taken (book_of self.old.book) (call_of R.code R.quantity entry.now) (answer_to (book_of self.old.book) (call_of R.code R.quantity entry.now)) (book_of self.new.book) (told book_fault result) }
         ensures unaltered { Unaltered result self.old.book self.new.book }
-        ensures law { Continued (book_of self.old.book) (call_of code quantity entry.now ∷ []) (book_of self.new.book) }
+        ensures law { Continued (book_of self.old.book) (call_of R.code R.quantity entry.now ∷ []) (book_of self.new.book) }
     {
         enter(&mut self.book, entry)
     }

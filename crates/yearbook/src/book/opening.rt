@@ -29,8 +29,8 @@ impl YearBook {
 
     // Opens the book anew: all balances are zero, with nothing posted or assessed.
     pub fn open(&mut self, demands: &[u32], flags: &[u8]) -> Result<(), BookFault>
-        ensures answered { told book_fault result ≡ acceptance (open_refusal (record { demands = demands.entry.now; flags = flags.now })) }
-        ensures left { book_of self.new ≡ settled (open_refusal (record { demands = demands.entry.now; flags = flags.now })) (book_of self.old) (opened (record { demands = demands.entry.now; flags = flags.now })) }
+        ensures answered { told book_fault result ≡ acceptance (open_refusal (record { demands = demands.now; flags = flags.now })) }
+        ensures left { book_of self.new ≡ settled (open_refusal (record { demands = demands.now; flags = flags.now })) (book_of self.old) (opened (record { demands = demands.now; flags = flags.now })) }
         ensures unaltered { Unaltered result self.old self.new }
     {
         check_terms(demands, flags)?;

@@ -28,7 +28,7 @@ impl YearBook {
         rate: u32,
         bytes: &[u8],
     ) -> Result<[u64; 64], BookFault>
-        ensures { MatchResult result (λ lines. Billed (book_of self.now) (meaning (code rule.now) (quantity rule.now)) day rate bytes.now lines) (λ fault. refusal (book_of self.now) (of_market (posting (meaning (code rule.now) (quantity rule.now)) day rate bytes.now)) ≡ Some (book_fault fault)) }
+        ensures { MatchResult result (λ lines. Billed (book_of self.now) (meaning (R.code rule.now) (R.quantity rule.now)) day rate bytes.now lines) (λ fault. refusal (book_of self.now) (of_market (posting (meaning (R.code rule.now) (R.quantity rule.now)) day rate bytes.now)) ≡ Some (book_fault fault)) }
     {
         if !rate_and_day(rate, day) {
             return Err(BookFault::RateOrDay);
@@ -53,7 +53,7 @@ impl YearBook {
         rate: u32,
         bytes: &[u8],
     ) -> Result<u64, BookFault>
-        ensures taken { Taken (book_of self.old) (of_market (posting (meaning (code rule.now) (quantity rule.now)) day rate bytes.now)) (posted_sum (length (book_of self.old).terms.demands) (meaning (code rule.now) (quantity rule.now)) rate bytes.now) (book_of self.new) (told book_fault result) }
+        ensures taken { Taken (book_of self.old) (of_market (posting (meaning (R.code rule.now) (R.quantity rule.now)) day rate bytes.now)) (posted_sum (length (book_of self.old).terms.demands) (meaning (R.code rule.now) (R.quantity rule.now)) rate bytes.now) (book_of self.new) (told book_fault result) }
         ensures unaltered { Unaltered result self.old self.new }
     {
         let lines = self.check_post(rule, day, rate, bytes)?;
@@ -71,7 +71,7 @@ impl YearBook {
         rate: u32,
         bytes: &[u8],
     ) -> Result<(u64, u64), BookFault>
-        ensures { told book_fault result ≡ answer (quote_refusal (book_of self.now) rate bytes.now coordinator) (quoting (meaning (code rule.now) (quantity rule.now)) rate bytes.now coordinator) }
+        ensures { told book_fault result ≡ answer (quote_refusal (book_of self.now) rate bytes.now coordinator) (quoting (meaning (R.code rule.now) (R.quantity rule.now)) rate bytes.now coordinator) }
     {
         if rate > 10_000_000 {
             return Err(BookFault::RateOrDay);

@@ -8,11 +8,11 @@ fits quantity rate h k = let p = mul-le-mul h k in omega arith
 line_low : (quantity rate : ℕ) → quantity ≤ 819200000000 → rate ≤ 10000000 → (quantity * rate + 5000000) / 10000000 ≤ 819200000000
 line_low quantity rate h k = let p = mul-le-mul h k in omega arith
 
-pub overflow-mul-result : goal.overflow-mul-result
-overflow-mul-result c = let b = fits c.args.quantity c.args.rate c.requires.few c.requires.cheap in search rules
+pub overflow_mul-result : goal.overflow_mul-result
+overflow_mul-result c = let b = fits c.args.quantity c.args.rate c.requires.few c.requires.cheap in search rules
 
-pub overflow-add-result : goal.overflow-add-result
-overflow-add-result c = let b = fits c.args.quantity c.args.rate c.requires.few c.requires.cheap in search rules
+pub overflow_add-result : goal.overflow_add-result
+overflow_add-result c = let b = fits c.args.quantity c.args.rate c.requires.few c.requires.cheap in search rules
 
 pub returns : goal.returns
 unfolding line

@@ -13,6 +13,6 @@ returns g c =
     let sheet = c.args.sheet in
     let e = c.len-i-end.ensures.value in
     record {
-      figures = walk_all sheet.bytes.now sheet.accepted g.F.Figures.running c.args.coordinator c.args.resource c.loop-i.walk c.loop-i.-i c.loop-i.invariant.0 (omega arith);
+      figures = walk_all sheet.bytes.now sheet.accepted g.F.Figures.running c.args.coordinator c.args.resource c.loop-i.walk c.loop-i._i c.loop-i.invariant.0 (omega arith);
       parts = all_rows sheet.bytes.now PartIsByte (λ n l. c.loop-i.invariant.1 n (omega arith));
     }

@@ -7,5 +7,5 @@ use Rattle.charges.proofs.walk.walk_over.Given as goal
 
 abbrev pub invariant-loop-i : goal.invariant-loop-i
 invariant-loop-i g l =
-    (l.walk ≡ walk_at g.F.Figures.running l.coordinator l.resource (sheet_rows l.sheet) l.-i)
-    × ((n : ℕ) → n < l.-i → PartIsByte (row_at l.sheet.bytes.now n))
+    (l.walk ≡ walk_at g.F.Figures.running l.coordinator l.resource (sheet_rows l.sheet) l._i)
+    × ((n : ℕ) → n < l._i → PartIsByte (row_at l.sheet.bytes.now n))

@@ -7,11 +7,11 @@ use Rattle.charges.specs.BidSegmentFacts.{segment_arrives, segment_figures_bound
 use Rattle.charges.proofs.Walks.{pair_low}
 use Rattle.charges.proofs.bid_segment.BidSegmentChargeRule.tell_quantity.Goals as goal
 
-pub overflow-mul-result : goal.overflow-mul-result
-overflow-mul-result c =
+pub overflow_mul-result : goal.overflow_mul-result
+overflow_mul-result c =
     let sheet = c.args.sheet in
     let low = pair_low sheet.bytes.now sheet.accepted segment_figures c.args.coordinator c.args.resource 5 segment_figures_bounded in
-    let e = c.total-of.ensures.value in
+    let e = c.total_of.ensures.value in
     search rules
 
 pub returns : goal.returns
@@ -19,5 +19,5 @@ returns c =
     let sheet = c.args.sheet in
     let coordinator = c.args.coordinator in
     let resource = c.args.resource in
-    ap (λ x. 100000 * x) c.total-of.ensures.value
+    ap (λ x. 100000 * x) c.total_of.ensures.value
     ∙ segment_arrives coordinator resource (pair_rows coordinator resource (sheet_rows sheet)) (pair_accepted sheet.bytes.now sheet.accepted coordinator resource)

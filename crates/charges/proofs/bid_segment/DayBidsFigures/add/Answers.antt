@@ -5,5 +5,5 @@ use Rattle.charges.proofs.bid_segment.DayBidsFigures.add.Goals as goal
 pub add-requires : goal.add-requires
 add-requires c = record { reached = hours_reached 2047 c.args.self.now c.requires.reached; passes = c.requires.passes }
 
-pub overflow-add-self : goal.overflow-add-self
-overflow-add-self c = let b = other_bids_low 2047 c.args.self.now c.requires.reached in search rules
+pub overflow_add-self : goal.overflow_add-self
+overflow_add-self c = let b = other_bids_low 2047 c.args.self.now c.requires.reached in search rules

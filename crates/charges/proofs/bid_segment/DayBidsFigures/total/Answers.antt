@@ -5,8 +5,8 @@ use Rattle.charges.proofs.bid_segment.DayBidsFigures.total.Goals as goal
 pub total-requires : goal.total-requires
 total-requires c = hours_reached 2048 c.args.self.now c.requires
 
-pub overflow-add-result : goal.overflow-add-result
-overflow-add-result c =
+pub overflow_add-result : goal.overflow_add-result
+overflow_add-result c =
     let a = hours_low 2048 c.args.self.now c.requires in
     let b = other_bids_low 2048 c.args.self.now c.requires in
     search rules

@@ -11,8 +11,8 @@ total-requires g c =
     let s = c.args.self.now in
     reached_more f 2047 2048 s.inside (omega arith) (inside_reached _ f g.F.Figures.most g.met.F.Figures.bounded g.K.Field.of g.K.Field.least s 2047 c.requires.reached)
 
-pub overflow-add-self : goal.overflow-add-self
-overflow-add-self g c =
+pub overflow_add-self : goal.overflow_add-self
+overflow_add-self g c =
     let low = reached_total_low _ g.F.Figures.running g.F.Figures.most g.met.F.Figures.bounded g.K.Field.of g.K.Field.least c.args.self.now 2047 c.requires.reached in
     let most = g.met.F.Figures.low in
     search rules

@@ -8,5 +8,5 @@ add-requires c = record { reached = energy_reached 2047 c.args.self.now c.requir
 pub add-requires-2 : goal.add-requires-2
 add-requires-2 c = record { reached = balance_reached 2047 c.args.self.now c.requires.reached; passes = c.requires.passes }
 
-pub overflow-add-self : goal.overflow-add-self
-overflow-add-self c = let b = awards_low 2047 c.args.self.now c.requires.reached in search rules
+pub overflow_add-self : goal.overflow_add-self
+overflow_add-self c = let b = awards_low 2047 c.args.self.now c.requires.reached in search rules

@@ -8,7 +8,7 @@ total-requires c = energy_reached 2048 c.args.self.now c.requires
 pub total-requires-2 : goal.total-requires-2
 total-requires-2 c = balance_reached 2048 c.args.self.now c.requires
 
-pub overflow-add-result : goal.overflow-add-result
-overflow-add-result c =
-    let b = total_fits 2048 c.args.self.now c.requires c.total.result c.total-2.result c.saturating-sub.result c.total.ensures c.total-2.ensures c.saturating-sub.ensures in
+pub overflow_add-result : goal.overflow_add-result
+overflow_add-result c =
+    let b = total_fits 2048 c.args.self.now c.requires c.total.result c.total-2.result c.saturating_sub.result c.total.ensures c.total-2.ensures c.saturating_sub.ensures in
     search rules

@@ -2,14 +2,14 @@ use Rattle.std.proofs.Common.{arith}
 use Rattle.charges.specs.MarketServicesFacts.{day_ahead_fits, hasp_fits, real_time_fits, day_ahead_more, hasp_more, real_time_more}
 use Rattle.charges.proofs.market_services.IntervalEnergyFigures.add.Goals as goal
 
-pub overflow-add-self : goal.overflow-add-self
-overflow-add-self c = day_ahead_fits c.args.self.now c.args.row c.requires.reached c.requires.passes
+pub overflow_add-self : goal.overflow_add-self
+overflow_add-self c = day_ahead_fits c.args.self.now c.args.row c.requires.reached c.requires.passes
 
-pub overflow-add-self-in-2 : goal.overflow-add-self-in-2
-overflow-add-self-in-2 c = hasp_fits c.args.self.now c.args.row c.requires.reached c.requires.passes
+pub overflow_add-self-in-2 : goal.overflow_add-self-in-2
+overflow_add-self-in-2 c = hasp_fits c.args.self.now c.args.row c.requires.reached c.requires.passes
 
-pub overflow-add-self-in-3-to-7 : goal.overflow-add-self-in-3-to-7
-overflow-add-self-in-3-to-7 c = real_time_fits c.args.self.now c.args.row c.requires.reached c.requires.passes
+pub overflow_add-self-in-3-to-7 : goal.overflow_add-self-in-3-to-7
+overflow_add-self-in-3-to-7 c = real_time_fits c.args.self.now c.args.row c.requires.reached c.requires.passes
 
 pub returns-in-1 : goal.returns-in-1
 returns-in-1 c = day_ahead_more c.args.self.now c.args.row c.requires.reached c.requires.passes c.in-1.is

@@ -7,11 +7,11 @@ use Rattle.charges.specs.MarketServicesFacts.{market_arrives, market_figures_bou
 use Rattle.charges.proofs.Walks.{pair_low}
 use Rattle.charges.proofs.market_services.MarketServicesChargeRule.tell_quantity.Goals as goal
 
-pub overflow-mul-result : goal.overflow-mul-result
-overflow-mul-result c =
+pub overflow_mul-result : goal.overflow_mul-result
+overflow_mul-result c =
     let sheet = c.args.sheet in
     let low = pair_low sheet.bytes.now sheet.accepted market_figures c.args.coordinator c.args.resource 8000000 market_figures_bounded in
-    let e = c.total-of.ensures.value in
+    let e = c.total_of.ensures.value in
     search rules
 
 pub returns : goal.returns
@@ -19,5 +19,5 @@ returns c =
     let sheet = c.args.sheet in
     let coordinator = c.args.coordinator in
     let resource = c.args.resource in
-    ap (λ x. 100 * x) c.total-of.ensures.value
+    ap (λ x. 100 * x) c.total_of.ensures.value
     ∙ market_arrives coordinator resource (pair_rows coordinator resource (sheet_rows sheet)) (pair_accepted sheet.bytes.now sheet.accepted coordinator resource)

@@ -8,11 +8,11 @@ use Rattle.charges.specs.SystemOperationsFacts.{system_arrives, system_figures_b
 use Rattle.charges.proofs.Walks.{all_pair, pair_low}
 use Rattle.charges.proofs.system_operations.SystemOperationsChargeRule.tell_quantity.Goals as goal
 
-pub overflow-mul-result : goal.overflow-mul-result
-overflow-mul-result c =
+pub overflow_mul-result : goal.overflow_mul-result
+overflow_mul-result c =
     let sheet = c.args.sheet in
     let low = pair_low sheet.bytes.now sheet.accepted system_figures c.args.coordinator c.args.resource 8000000 system_figures_bounded in
-    let e = c.total-of.ensures.value in
+    let e = c.total_of.ensures.value in
     search rules
 
 pub returns : goal.returns
@@ -20,5 +20,5 @@ returns c =
     let sheet = c.args.sheet in
     let coordinator = c.args.coordinator in
     let resource = c.args.resource in
-    ap (λ x. 100 * x) c.total-of.ensures.value
-    ∙ system_arrives coordinator resource (pair_rows coordinator resource (sheet_rows sheet)) (pair_accepted sheet.bytes.now sheet.accepted coordinator resource) (all_pair PartIsByte coordinator resource (sheet_rows sheet) c.total-of.ensures.parts)
+    ap (λ x. 100 * x) c.total_of.ensures.value
+    ∙ system_arrives coordinator resource (pair_rows coordinator resource (sheet_rows sheet)) (pair_accepted sheet.bytes.now sheet.accepted coordinator resource) (all_pair PartIsByte coordinator resource (sheet_rows sheet) c.total_of.ensures.parts)

@@ -14,17 +14,17 @@ returns-then-resource-ne0 c =
     sym (cond-false (eqb resource 0) (100 * run tor_figures rs) 0 (ne_eqb resource 0 (λ e. omega arith)))
     ∙ tor_arrives c.args.coordinator resource rs
 
-pub overflow-mul-result : goal.overflow-mul-result
-overflow-mul-result c =
+pub overflow_mul-result : goal.overflow_mul-result
+overflow_mul-result c =
     let sheet = c.args.sheet in
     let low = pair_low sheet.bytes.now sheet.accepted tor_figures c.args.coordinator c.args.resource 4000000 tor_figures_bounded in
-    let e = c.total-of.ensures.value in
+    let e = c.total_of.ensures.value in
     search rules
 
 pub returns : goal.returns
 returns c =
     let resource = c.args.resource in
     let rs = pair_rows c.args.coordinator resource (sheet_rows c.args.sheet) in
-    ap (λ x. 100 * x) c.total-of.ensures.value
+    ap (λ x. 100 * x) c.total_of.ensures.value
     ∙ sym (cond-true (eqb resource 0) (100 * run tor_figures rs) 0 (eq-eqb resource 0 (omega arith)))
     ∙ tor_arrives c.args.coordinator resource rs

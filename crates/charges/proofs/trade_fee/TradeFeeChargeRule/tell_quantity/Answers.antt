@@ -6,11 +6,11 @@ use Rattle.charges.specs.TradeFeeFacts.{trade_arrives, trade_figures_bounded}
 use Rattle.charges.proofs.Walks.{pair_low}
 use Rattle.charges.proofs.trade_fee.TradeFeeChargeRule.tell_quantity.Goals as goal
 
-pub overflow-mul-result : goal.overflow-mul-result
-overflow-mul-result c =
+pub overflow_mul-result : goal.overflow_mul-result
+overflow_mul-result c =
     let sheet = c.args.sheet in
     let low = pair_low sheet.bytes.now sheet.accepted trade_figures c.args.coordinator c.args.resource 1 trade_figures_bounded in
-    let e = c.total-of.ensures.value in
+    let e = c.total_of.ensures.value in
     search rules
 
 pub returns : goal.returns
@@ -18,5 +18,5 @@ returns c =
     let sheet = c.args.sheet in
     let coordinator = c.args.coordinator in
     let resource = c.args.resource in
-    ap (λ x. 100000 * x) c.total-of.ensures.value
+    ap (λ x. 100000 * x) c.total_of.ensures.value
     ∙ trade_arrives coordinator resource (pair_rows coordinator resource (sheet_rows sheet))
