@@ -4,20 +4,20 @@ use Rattle.year.specs.Spread.{quotient, carried, spread}
 use Rattle.year.proofs.Sums.{total_next, total_take_le}
 use Rattle.year.proofs.Spread.{length_spread, spread_at, carried_mono, carried_none}
 use Rattle.year.proofs.shares.spread_over.Goals as goal
-use Rattle.year.proofs.shares.spread_over.Goals.{After-carried-by-carried}
+use Rattle.year.proofs.shares.spread_over.Goals.{After-carried_by-carried}
 
 pub loop-i-init : goal.loop-i-init
 loop-i-init c = (refl, sym (carried_none c.args.amount c.args.demands.now), λ k h. absurd (omega arith))
 
-pub overflow-add-sum : goal.overflow-add-sum
-overflow-add-sum c =
+pub overflow_add-sum : goal.overflow_add-sum
+overflow_add-sum c =
     let m = total_next c.args.demands.now c.loop-i.i (omega arith) in
     let l = total_take_le (c.loop-i.i + 1) c.args.demands.now in
     let bound = c.requires.demand in
     search rules
 
-pub carried-by-carried-requires : goal.carried-by-carried-requires
-carried-by-carried-requires c =
+pub carried_by-carried-requires : goal.carried_by-carried-requires
+carried_by-carried-requires c =
     let m = total_next c.args.demands.now c.loop-i.i (omega arith) in
     let l = total_take_le (c.loop-i.i + 1) c.args.demands.now in
     let bound = c.requires.demand in
@@ -32,18 +32,18 @@ next amount whole sum demand i r given ds h w s g d e =
     let b : r ≡ carried amount ds (suc i) = rw add-one at a in
     (rw (b, g) (carried_mono amount ds i h), a, rw (b, g) (sym (spread_at amount ds i h)))
 
-turn : (c : After-carried-by-carried) → let ds = c.args.demands.now in let r = c.carried-by-carried.result in
+turn : (c : After-carried_by-carried) → let ds = c.args.demands.now in let r = c.carried_by-carried.result in
     (c.loop-i.given ≤ r) × (r ≡ carried c.args.amount ds (c.loop-i.i + 1)) × (r - c.loop-i.given ≡ get_or (spread c.args.amount ds) c.loop-i.i 0)
 turn c =
-    next c.args.amount c.total-demand-whole.result c.loop-i.sum c.from-sum.result c.loop-i.i c.carried-by-carried.result c.loop-i.given c.args.demands.now
-    c.loop-i-test.true c.total-demand-whole.ensures c.loop-i.invariant.0 c.loop-i.invariant.1 c.from-sum.ensures c.carried-by-carried.ensures
+    next c.args.amount c.total_demand-whole.result c.loop-i.sum c.from-sum.result c.loop-i.i c.carried_by-carried.result c.loop-i.given c.args.demands.now
+    c.loop-i-test.true c.total_demand-whole.ensures c.loop-i.invariant.0 c.loop-i.invariant.1 c.from-sum.ensures c.carried_by-carried.ensures
 
-pub overflow-sub-shares : goal.overflow-sub-shares
-overflow-sub-shares c = (turn (goal.at.overflow-sub-shares c).After-carried-by-carried).0
+pub overflow_sub-shares : goal.overflow_sub-shares
+overflow_sub-shares c = (turn (goal.at.overflow_sub-shares c).After-carried_by-carried).0
 
 pub loop-i-preserved : goal.loop-i-preserved
 loop-i-preserved c =
-    let t = turn (goal.at.loop-i-preserved c).After-carried-by-carried in
+    let t = turn (goal.at.loop-i-preserved c).After-carried_by-carried in
     let m = total_next c.args.demands.now c.loop-i.i c.loop-i-test.true in
     let s = c.loop-i.invariant.0 in
     let same = c.requires.length in

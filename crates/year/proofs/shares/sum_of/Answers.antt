@@ -3,8 +3,8 @@ use Rattle.charges.specs.Sums.{total}
 use Rattle.year.proofs.Sums.{total_next, total_take_le}
 use Rattle.year.proofs.shares.sum_of.Goals as goal
 
-pub overflow-add-sum : goal.overflow-add-sum
-overflow-add-sum c =
+pub overflow_add-sum : goal.overflow_add-sum
+overflow_add-sum c =
     let m = total_next c.args.amounts.now c.loop-amount.amount-index (omega arith) in
     let l = total_take_le (c.loop-amount.amount-index + 1) c.args.amounts.now in
     let bound = c.requires in

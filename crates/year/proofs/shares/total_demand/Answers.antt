@@ -3,8 +3,8 @@ use Rattle.charges.specs.Sums.{total}
 use Rattle.year.proofs.Sums.{total_next, total_take_le}
 use Rattle.year.proofs.shares.total_demand.Goals as goal
 
-pub overflow-add-sum : goal.overflow-add-sum
-overflow-add-sum c =
+pub overflow_add-sum : goal.overflow_add-sum
+overflow_add-sum c =
     let m = total_next c.args.demands.now c.loop-demand.demand-index (omega arith) in
     let l = total_take_le (c.loop-demand.demand-index + 1) c.args.demands.now in
     let bound = c.requires in

@@ -8,46 +8,46 @@ pub returns-then-coordinator-ge64 : goal.returns-then-coordinator-ge64
 unfolding ask range_refusal
 returns-then-coordinator-ge64 c = search rules
 
-pub returns-then-place-eq-MOST-LISTED : goal.returns-then-place-eq-MOST-LISTED
-returns-then-place-eq-MOST-LISTED c =
+pub returns-then-place-eq-MOST_LISTED : goal.returns-then-place-eq-MOST_LISTED
+returns-then-place-eq-MOST_LISTED c =
     let s = c.args.self.now in
     record {
-      answered = ap acceptance (sym (refused c.args.coordinator c.args.resource c.args.allowance s.places s.count c.place-of-place.result s.few s.whole c.place-of-place.ensures c.if-coordinator-ge64.false c.if-allowance-gt-MOST-ALLOWANCE.false c.if-place-eq-MOST-LISTED.true));
+      answered = ap acceptance (sym (refused c.args.coordinator c.args.resource c.args.allowance s.places s.count c.place_of-place.result s.few s.whole c.place_of-place.ensures c.if-coordinator-ge64.false c.if-allowance-gt-MOST_ALLOWANCE.false c.if-place-eq-MOST_LISTED.true));
       table = refl;
     }
 
-pub offset-bounds-self-place : goal.offset-bounds-self-place
-offset-bounds-self-place c =
+pub offset_bounds-self-place : goal.offset_bounds-self-place
+offset_bounds-self-place c =
     let s = c.args.self.now in
-    let low = at_low c.args.coordinator c.args.resource c.args.allowance s.places s.count c.place-of-place.result s.few s.whole c.place-of-place.ensures in
+    let low = at_low c.args.coordinator c.args.resource c.args.allowance s.places s.count c.place_of-place.result s.few s.whole c.place_of-place.ensures in
     search rules
 
 pub bounds-self-place : goal.bounds-self-place
 bounds-self-place c =
     let s = c.args.self.now in
-    let low = at_low c.args.coordinator c.args.resource c.args.allowance s.places s.count c.place-of-place.result s.few s.whole c.place-of-place.ensures in
-    let not_full = c.if-place-eq-MOST-LISTED.false in
+    let low = at_low c.args.coordinator c.args.resource c.args.allowance s.places s.count c.place_of-place.result s.few s.whole c.place_of-place.ensures in
+    let not_full = c.if-place-eq-MOST_LISTED.false in
     omega arith
 
 pub returns-then-place-self : goal.returns-then-place-self
 returns-then-place-self c =
     let s = c.args.self.now in
-    let at = c.place-of-place.result in
-    let low = at_low c.args.coordinator c.args.resource c.args.allowance s.places s.count at s.few s.whole c.place-of-place.ensures in
-    let not_full = c.if-place-eq-MOST-LISTED.false in
+    let at = c.place_of-place.result in
+    let low = at_low c.args.coordinator c.args.resource c.args.allowance s.places s.count at s.few s.whole c.place_of-place.ensures in
+    let not_full = c.if-place-eq-MOST_LISTED.false in
     record {
-      answered = ap acceptance (sym (accepted c.args.coordinator c.args.resource c.args.allowance s.places s.count at s.few s.whole c.place-of-place.ensures c.if-coordinator-ge64.false c.if-allowance-gt-MOST-ALLOWANCE.false (omega arith)));
-      table = entered_behind c.args.coordinator c.args.resource c.args.allowance s.places s.count at s.few s.whole c.place-of-place.ensures c.if-place-self.true (omega arith);
+      answered = ap acceptance (sym (accepted c.args.coordinator c.args.resource c.args.allowance s.places s.count at s.few s.whole c.place_of-place.ensures c.if-coordinator-ge64.false c.if-allowance-gt-MOST_ALLOWANCE.false (omega arith)));
+      table = entered_behind c.args.coordinator c.args.resource c.args.allowance s.places s.count at s.few s.whole c.place_of-place.ensures c.if-place-self.true (omega arith);
     }
 
 pub returns-else-place-self : goal.returns-else-place-self
 returns-else-place-self c =
     let s = c.args.self.now in
-    let at = c.place-of-place.result in
-    let low = at_low c.args.coordinator c.args.resource c.args.allowance s.places s.count at s.few s.whole c.place-of-place.ensures in
-    let not_full = c.if-place-eq-MOST-LISTED.false in
+    let at = c.place_of-place.result in
+    let low = at_low c.args.coordinator c.args.resource c.args.allowance s.places s.count at s.few s.whole c.place_of-place.ensures in
+    let not_full = c.if-place-eq-MOST_LISTED.false in
     let other = c.if-place-self.false in
     record {
-      answered = ap acceptance (sym (accepted c.args.coordinator c.args.resource c.args.allowance s.places s.count at s.few s.whole c.place-of-place.ensures c.if-coordinator-ge64.false c.if-allowance-gt-MOST-ALLOWANCE.false (omega arith)));
-      table = entered_in_place c.args.coordinator c.args.resource c.args.allowance s.places s.count at s.few s.whole c.place-of-place.ensures (omega arith);
+      answered = ap acceptance (sym (accepted c.args.coordinator c.args.resource c.args.allowance s.places s.count at s.few s.whole c.place_of-place.ensures c.if-coordinator-ge64.false c.if-allowance-gt-MOST_ALLOWANCE.false (omega arith)));
+      table = entered_in_place c.args.coordinator c.args.resource c.args.allowance s.places s.count at s.few s.whole c.place_of-place.ensures (omega arith);
     }

@@ -8,5 +8,5 @@ pub returns-in-SystemOperations : goal.returns-in-SystemOperations
 returns-in-SystemOperations c =
     let coordinator = c.args.coordinator in
     let resource = c.args.resource in
-    c.tell-quantity-in-SystemOperations.ensures
+    c.tell_quantity-in-SystemOperations.ensures
     ∙ ap (λ rule. posted_quantity rule coordinator resource (pair_rows coordinator resource (sheet_rows c.args.sheet))) (sym c.in-SystemOperations.is)

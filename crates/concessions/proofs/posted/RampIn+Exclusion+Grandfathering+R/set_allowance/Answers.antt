@@ -5,9 +5,9 @@ use Rattle.concessions.proofs.posted.RampIn+Exclusion+Grandfathering+R.set_allow
 
 pub returns : goal.returns
 returns g c = record {
-  answered = c.set-allowance.ensures.answered;
-  table = MatchResult-weaker c.set-allowance.result c.set-allowance.ensures.table (λ _ e. e) (λ _ e. same_but_below _ _ _ _ _ e);
-  rule = c.set-allowance.ensures.rule;
-  marks = c.set-allowance.ensures.marks;
+  answered = c.set_allowance.ensures.answered;
+  table = MatchResult-weaker c.set_allowance.result c.set_allowance.ensures.table (λ _ e. e) (λ _ e. same_but_below _ _ _ _ _ e);
+  rule = c.set_allowance.ensures.rule;
+  marks = c.set_allowance.ensures.marks;
   percents = refl;
 }

@@ -5,8 +5,8 @@ use Rattle.concessions.proofs.posted.RampIn+Exclusion+R.set_mark.Goals as goal
 
 pub returns : goal.returns
 returns g c = record {
-  answered = c.set-mark.ensures.answered;
-  table = MatchResult-weaker c.set-mark.result c.set-mark.ensures.table (λ _ e. e) (λ _ e. same_but_below _ _ _ _ _ e);
-  rule = c.set-mark.ensures.rule;
+  answered = c.set_mark.ensures.answered;
+  table = MatchResult-weaker c.set_mark.result c.set_mark.ensures.table (λ _ e. e) (λ _ e. same_but_below _ _ _ _ _ e);
+  rule = c.set_mark.ensures.rule;
   percents = refl;
 }

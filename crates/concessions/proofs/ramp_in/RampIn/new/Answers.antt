@@ -1,5 +1,5 @@
 use Rattle.concessions.proofs.Limits.{zeros_under}
 use Rattle.concessions.proofs.ramp_in.RampIn.new.Goals as goal
 
-pub invariant-of-result : goal.invariant-of-result
-invariant-of-result g c = (zeros_under 64 100, tt)
+pub invariant_of-result : goal.invariant_of-result
+invariant_of-result g c = (zeros_under 64 100, tt)

@@ -12,5 +12,5 @@ pub returns : goal.returns
 unfolding ask range_refusal
 returns g c = search rules
 
-pub invariant-of-self : goal.invariant-of-self
-invariant-of-self g c = (set_under c.args.self.now.percents c.args.coordinator c.args.percent 100 (omega arith) (omega arith) c.args.self.now.hundred, tt)
+pub invariant_of-self : goal.invariant_of-self
+invariant_of-self g c = (set_under c.args.self.now.percents c.args.coordinator c.args.percent 100 (omega arith) (omega arith) c.args.self.now.hundred, tt)
