@@ -1,22 +1,18 @@
--- Each concession keeps the bound of the quantity below, and so do the posted rules.
+-- Each concession keeps the bound of the quantity below.
 use Rattle.std.specs.Prelude.{ℕ, ◌-◌, ◌*◌, ◌/◌, ◌≤◌, Bool, true, false, cond, List, ◌==◌, slice_index}
 use Rattle.std.proofs.Common.{arith, mul-le-mul_left}
 use Rattle.charges.specs.Rules.{Bounded}
-use Rattle.charges.proofs.Laws.{charges_bounded}
 use Rattle.concessions.specs.declared.allowances.Allowance.{Allowance}
-use Rattle.concessions.specs.declared.posted.PostedRule.{PostedRule}
-use Rattle.concessions.specs.declared.posted.PostedRule.TheVariants.{MarketServices, SystemOperations, BidSegment, Tor, TradeFee}
-use Rattle.concessions.specs.Concessions.{Quantity, excluded, grandfathered, listed, ramped_in}
-use Rattle.concessions.specs.Posted.{posted_quantity}
+use Rattle.concessions.specs.Concessions.{Quantity, excluded, grandfathered, ramped_in}
 
-excluded_bounded : (marks : List ℕ) (below : Quantity) → Bounded below → Bounded (excluded marks below)
+pub excluded_bounded : (marks : List ℕ) (below : Quantity) → Bounded below → Bounded (excluded marks below)
 excluded_bounded marks below h coordinator resource rs p = go (slice_index marks coordinator == 1) (h coordinator resource rs p)
   where
     go : (b : Bool) {x most : ℕ} → x ≤ most → cond b 0 x ≤ most
     go true l = omega arith
     go false l = l
 
-grandfathered_bounded : (entries : List Allowance) (below : Quantity) → Bounded below → Bounded (grandfathered entries below)
+pub grandfathered_bounded : (entries : List Allowance) (below : Quantity) → Bounded below → Bounded (grandfathered entries below)
 grandfathered_bounded entries below h coordinator resource rs p = let l = h coordinator resource rs p in omega arith
 
 part_le : (x part : ℕ) → part ≤ 100 → x * part / 100 ≤ x
@@ -27,12 +23,3 @@ ramped_in_bounded percents below h coordinator resource rs p =
     let l = h coordinator resource rs p in
     let part = part_le (below coordinator resource rs) (100 - slice_index percents coordinator) (omega arith) in
     omega arith
-
-pub posted_bounded : (rule : PostedRule) → Bounded (posted_quantity rule)
-posted_bounded (MarketServices rule) = excluded_bounded rule.marks _ charges_bounded.market_services_bounded
-posted_bounded (SystemOperations rule) =
-    ramped_in_bounded rule.percents _
-    (excluded_bounded rule.below.marks _ (grandfathered_bounded (listed rule.below.below.allowances) _ charges_bounded.system_operations_bounded))
-posted_bounded (BidSegment rule) = charges_bounded.bid_segment_bounded
-posted_bounded (Tor rule) = charges_bounded.tor_bounded
-posted_bounded (TradeFee rule) = charges_bounded.trade_fee_bounded

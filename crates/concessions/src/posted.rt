@@ -4,7 +4,7 @@ ghost use Rattle.questions.specs.Questions.{acceptance, told};
 ghost use Rattle.concessions.specs.Concessions.{Entered, allowance_refusal, listed, mark_refusal};
 ghost use Rattle.concessions.specs.Faults.{concession_fault};
 ghost use Rattle.concessions.specs.Posted.{posted_code, posted_quantity};
-ghost use Rattle.concessions.specs.Bounds.{posted_bounded};
+ghost use Rattle.concessions.specs.PostedBounds.{posted_bounded};
 ghost use Rattle.std.proofs.Common.{rules};
 
 use crate::exclusion::Exclusion;

@@ -13,4 +13,4 @@ unfolding ask range_refusal
 returns g c = search rules
 
 pub invariant_of-self : goal.invariant_of-self
-invariant_of-self g c = (set_under c.args.self.now.percents c.args.coordinator c.args.percent 100 (omega arith) (omega arith) c.args.self.now.hundred, tt)
+invariant_of-self g c = record { hundred = set_under c.args.self.now.percents c.args.coordinator c.args.percent 100 (omega arith) (omega arith) c.args.self.now.hundred }
