@@ -8,8 +8,8 @@ use Rattle.yearbook.proofs.account.raise_market_sides.Goals as goal
 pub loop-i-init : goal.loop-i-init
 loop-i-init c = raising_start market_raised c.args.table.now c.args.lines.now
 
-pub overflow-add-table : goal.overflow-add-table
-overflow-add-table c =
+pub overflow_add-table : goal.overflow_add-table
+overflow_add-table c =
     let z : ℤ = (get_or c.loop-i.table c.loop-i.i empty_account).market in
     let f : SFits w64 z = search rules in
     let r = ap market_of (c.loop-i.invariant.rest c.loop-i.i (omega arith)) in

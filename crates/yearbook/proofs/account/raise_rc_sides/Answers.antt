@@ -7,8 +7,8 @@ use Rattle.yearbook.proofs.account.raise_rc_sides.Goals as goal
 pub loop-i-init : goal.loop-i-init
 loop-i-init c = raising_start rc_raised c.args.table.now c.args.amounts.now
 
-pub overflow-add-table : goal.overflow-add-table
-overflow-add-table c =
+pub overflow_add-table : goal.overflow_add-table
+overflow_add-table c =
     let r = ap rc_of (c.loop-i.invariant.rest c.loop-i.i (omega arith)) in
     let l = c.requires.low c.loop-i.i c.loop-i-test.true in
     let g = get_or_le_total c.args.amounts.now c.loop-i.i in

@@ -8,8 +8,8 @@ use Rattle.yearbook.proofs.Moves.{refused_at, passed_at}
 use Rattle.yearbook.proofs.Raised.{line_fits, code_sum, code_sum_is}
 use Rattle.yearbook.proofs.lines.check_balances.Goals as goal
 
-pub overflow-add-balance : goal.overflow-add-balance
-overflow-add-balance c =
+pub overflow_add-balance : goal.overflow_add-balance
+overflow_add-balance c =
     let k = c.loop-coordinator.coordinator in
     let z : ℤ = (get_or c.args.table.now k empty_account).market in
     let fits : SFits w64 z = search rules in

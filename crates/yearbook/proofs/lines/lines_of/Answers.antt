@@ -10,14 +10,14 @@ unfolding line_of
 loop-coordinator-preserved g c =
     let xs = c.loop-coordinator.lines in
     let i = c.loop-coordinator.coordinator in
-    let v = c.line-at.result in
+    let v = c.line_at.result in
     let few = c.requires.few in
     let h : i < length xs = omega arith in
     let same = get_or-set_same xs i v 0 h in (
       length-set xs i v ∙ c.loop-coordinator.invariant.0,
       below_more _ i
           (λ k l. let o = get_or-set_other xs i k v 0 (omega arith) in let p = c.loop-coordinator.invariant.1 k l in (o ∙ p.0, omega arith))
-          (same ∙ c.line-at.ensures.value ∙ ap (λ q. line q c.args.rate) c.coordinator-quantity.ensures.value, omega (arith, c.line-at.ensures.low)),
+          (same ∙ c.line_at.ensures.value ∙ ap (λ q. line q c.args.rate) c.coordinator_quantity.ensures.value, omega (arith, c.line_at.ensures.low)),
     )
 
 pub returns : goal.returns

@@ -10,4 +10,4 @@ returns-then-amount-eq0 c = rw (eq-eqb c.args.amount 0 (omega arith))
 
 pub returns-else-amount-eq0 : goal.returns-else-amount-eq0
 unfolding spreadable
-returns-else-amount-eq0 c = rw (ne_eqb c.args.amount 0 (λ e. omega arith)) (ap (ltb 0) c.total-demand.ensures)
+returns-else-amount-eq0 c = rw (ne_eqb c.args.amount 0 (λ e. omega arith)) (ap (ltb 0) c.total_demand.ensures)

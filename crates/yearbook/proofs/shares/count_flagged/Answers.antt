@@ -12,10 +12,10 @@ loop-flag-preserved c =
     elim c.if-flag-eq1.branch [
       | then-flag-eq1 w ↦
           let m = count_by_more_yes (λ flag. eqb flag 1) fs i 0 (omega arith) (eq-eqb _ 1 (omega (arith, w.if-flag-eq1.true))) in
-          (omega (arith, w.flagged_is), omega (arith, w.flagged_is))
+          (omega (arith, w.flagged-is), omega (arith, w.flagged-is))
       | else-flag-eq1 w ↦
           let m = count_by_more_no (λ flag. eqb flag 1) fs i 0 (omega arith) (ne_eqb _ 1 (λ e. omega (arith, w.if-flag-eq1.false))) in
-          (omega (arith, w.flagged_is), omega (arith, w.flagged_is))
+          (omega (arith, w.flagged-is), omega (arith, w.flagged-is))
     ]
 
 pub returns : goal.returns

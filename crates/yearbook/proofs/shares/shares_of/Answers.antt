@@ -11,5 +11,5 @@ long n ys xs e h l = let a = length-append ys (drop (n - 0) xs) in let d = lengt
 pub returns : goal.returns
 returns c =
     let w = c.args.demands.now in
-    let e : length c.spread-over.new.shares ≡ length w = ap length c.spread-over.ensures ∙ length_spread c.args.amount w in
-    record { long = long (length w) c.spread-over.new.shares (replicate 64 0) e c.requires.few (length-replicate {A = ℕ} 64 0); value = take_at c.spread-over.new.shares _ (length w) e ∙ c.spread-over.ensures }
+    let e : length c.spread_over.new.shares ≡ length w = ap length c.spread_over.ensures ∙ length_spread c.args.amount w in
+    record { long = long (length w) c.spread_over.new.shares (replicate 64 0) e c.requires.few (length-replicate {A = ℕ} 64 0); value = take_at c.spread_over.new.shares _ (length w) e ∙ c.spread_over.ensures }

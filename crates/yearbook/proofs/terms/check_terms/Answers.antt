@@ -31,10 +31,10 @@ nothing_asked : (asked : ℕ → Option Refusal) → in_turn 0 asked ≡ None
 unfolding in_turn
 nothing_asked asked = refl
 
-pub returns-then-not-equally-long : goal.returns-then-not-equally-long
-returns-then-not-equally-long c =
+pub returns-then-not-equally_long : goal.returns-then-not-equally_long
+returns-then-not-equally_long c =
     let t : Terms = record { demands = c.args.demands.now; flags = c.args.flags.now } in
-    ap acceptance (sym (refused_6 t (sym c.if-not-equally-long.ensures)))
+    ap acceptance (sym (refused_6 t (sym c.if-not-equally_long.ensures)))
 
 pub loop-coordinator-init : goal.loop-coordinator-init
 loop-coordinator-init c = nothing_asked (coordinator_refusal (record { demands = c.args.demands.now; flags = c.args.flags.now }))
@@ -43,7 +43,7 @@ pub returns-then-not-agree : goal.returns-then-not-agree
 returns-then-not-agree c =
     let t : Terms = record { demands = c.args.demands.now; flags = c.args.flags.now } in
     let k = c.loop-coordinator.coordinator in
-    ap acceptance (sym (passed_6 t (sym c.if-not-equally-long.ensures)
+    ap acceptance (sym (passed_6 t (sym c.if-not-equally_long.ensures)
     ∙ turn_refused (coordinator_refusal t) (count t) k _ (omega arith) c.loop-coordinator.invariant (refused_7 t k (sym c.if-not-agree.ensures))))
 
 pub loop-coordinator-preserved : goal.loop-coordinator-preserved
@@ -56,4 +56,4 @@ pub returns : goal.returns
 returns c =
     let t : Terms = record { demands = c.args.demands.now; flags = c.args.flags.now } in
     let all : c.loop-coordinator.coordinator ≡ count t = omega arith in
-    ap acceptance (sym (passed_6 t (sym c.if-not-equally-long.ensures) ∙ ap (λ n. in_turn n (coordinator_refusal t)) (sym all) ∙ c.loop-coordinator.invariant))
+    ap acceptance (sym (passed_6 t (sym c.if-not-equally_long.ensures) ∙ ap (λ n. in_turn n (coordinator_refusal t)) (sym all) ∙ c.loop-coordinator.invariant))

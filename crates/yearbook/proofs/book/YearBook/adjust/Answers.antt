@@ -16,12 +16,12 @@ returns-then-not-inside c =
     let f = c.ranges.amount in
     record { taken = adjust_13 s wide c.args.coordinator c.args.amount (omega arith) (sym (simp to_z-of_z at c.if-not-inside.ensures)); unaltered = refl }
 
-pub move-market-requires : goal.move-market-requires
-move-market-requires c = let f = c.ranges.amount in record { here = omega arith; small = simp to_z-of_z (sym (simp to_z-of_z at c.if-not-inside.ensures)) }
+pub move_market-requires : goal.move_market-requires
+move_market-requires c = let f = c.ranges.amount in record { here = omega arith; small = simp to_z-of_z (sym (simp to_z-of_z at c.if-not-inside.ensures)) }
 
 pub returns : goal.returns
 returns c =
     let s = c.args.self.now in
     let wide : length s.demands ≡ 64 = search rules in
     let f = c.ranges.amount in
-    record { taken = adjust_last s wide c.args.coordinator c.args.amount (omega arith) (sym (simp to_z-of_z at c.if-not-inside.ensures)) _ _ (simp to_z-of_z at c.move-market.ensures.answered) (simp to_z-of_z at c.move-market.ensures.left); unaltered = c.move-market.ensures.unaltered }
+    record { taken = adjust_last s wide c.args.coordinator c.args.amount (omega arith) (sym (simp to_z-of_z at c.if-not-inside.ensures)) _ _ (simp to_z-of_z at c.move_market.ensures.answered) (simp to_z-of_z at c.move_market.ensures.left); unaltered = c.move_market.ensures.unaltered }

@@ -5,32 +5,32 @@ use Rattle.yearbook.proofs.Assessing.{passed, flagged_is, front_flags_long, fron
 use Rattle.yearbook.proofs.Sides.{front, front_of}
 use Rattle.yearbook.proofs.book.YearBook.charge_all.Goals as goal
 
-pub overflow-mul-rest : goal.overflow-mul-rest
-overflow-mul-rest c =
+pub overflow_mul-rest : goal.overflow_mul-rest
+overflow_mul-rest c =
     let s = c.args.self.now in
     let wide : length s.demands ≡ 64 = search rules in
     let flags_wide : length s.flags ≡ 64 = search rules in
     let q = c.args.charge in
     let m = c.args.minimum in
-    let f = ap (λ x. m * x) (c.count-flagged.ensures.value ∙ flagged_is s wide flags_wide q m) in
+    let f = ap (λ x. m * x) (c.count_flagged.ensures.value ∙ flagged_is s wide flags_wide q m) in
     let p = passed s wide flags_wide q m c.requires in
     let e = p.enough in
     let u = p.bound in
     search rules
 
-pub overflow-sub-rest : goal.overflow-sub-rest
-overflow-sub-rest c =
+pub overflow_sub-rest : goal.overflow_sub-rest
+overflow_sub-rest c =
     let s = c.args.self.now in
     let wide : length s.demands ≡ 64 = search rules in
     let flags_wide : length s.flags ≡ 64 = search rules in
     let q = c.args.charge in
     let m = c.args.minimum in
-    let f = ap (λ x. m * x) (c.count-flagged.ensures.value ∙ flagged_is s wide flags_wide q m) in
+    let f = ap (λ x. m * x) (c.count_flagged.ensures.value ∙ flagged_is s wide flags_wide q m) in
     let e = (passed s wide flags_wide q m c.requires).enough in
     omega arith
 
-pub shares-of-shares-requires : goal.shares-of-shares-requires
-shares-of-shares-requires c =
+pub shares_of-shares-requires : goal.shares_of-shares-requires
+shares_of-shares-requires c =
     let s = c.args.self.now in
     let wide : length s.demands ≡ 64 = search rules in
     let flags_wide : length s.flags ≡ 64 = search rules in
@@ -41,47 +41,47 @@ shares-of-shares-requires c =
     let w = s.light in
     record { few = omega arith; amount = omega arith; demand = omega (arith, ap total (front s.count s.demands)) }
 
-pub raise-rc-requires : goal.raise-rc-requires
-raise-rc-requires c =
+pub raise_rc-requires : goal.raise_rc-requires
+raise_rc-requires c =
     let s = c.args.self.now in
     let wide : length s.demands ≡ 64 = search rules in
     let flags_wide : length s.flags ≡ 64 = search rules in
     let q = c.args.charge in
     let m = c.args.minimum in
-    let f = c.count-flagged.ensures.value ∙ flagged_is s wide flags_wide q m in
-    let mins = minimums_are s wide flags_wide q m c.minimums-of-minimums.result c.minimums-of-minimums.ensures.value in
-    let shares = front_of s.count _ c.shares-of-shares.result _ (front_demands_long s wide flags_wide q m) c.shares-of-shares.ensures.value
+    let f = c.count_flagged.ensures.value ∙ flagged_is s wide flags_wide q m in
+    let mins = minimums_are s wide flags_wide q m c.minimums_of-minimums.result c.minimums_of-minimums.ensures.value in
+    let shares = front_of s.count _ c.shares_of-shares.result _ (front_demands_long s wide flags_wide q m) c.shares_of-shares.ensures.value
     ∙ ap₂ (λ (x : ℕ) (ds : List ℕ). spread (q - m * x) ds) f (front s.count s.demands) in
     let r = assess_room s wide flags_wide q m c.requires _ _ _ _ mins shares refl refl in
     record { few = r.0; low = r.1; small = r.2 }
 
-pub raise-rc-requires-2 : goal.raise-rc-requires-2
-raise-rc-requires-2 c =
+pub raise_rc-requires-2 : goal.raise_rc-requires-2
+raise_rc-requires-2 c =
     let s = c.args.self.now in
     let wide : length s.demands ≡ 64 = search rules in
     let flags_wide : length s.flags ≡ 64 = search rules in
     let q = c.args.charge in
     let m = c.args.minimum in
-    let f = c.count-flagged.ensures.value ∙ flagged_is s wide flags_wide q m in
-    let mins = minimums_are s wide flags_wide q m c.minimums-of-minimums.result c.minimums-of-minimums.ensures.value in
-    let shares = front_of s.count _ c.shares-of-shares.result _ (front_demands_long s wide flags_wide q m) c.shares-of-shares.ensures.value
+    let f = c.count_flagged.ensures.value ∙ flagged_is s wide flags_wide q m in
+    let mins = minimums_are s wide flags_wide q m c.minimums_of-minimums.result c.minimums_of-minimums.ensures.value in
+    let shares = front_of s.count _ c.shares_of-shares.result _ (front_demands_long s wide flags_wide q m) c.shares_of-shares.ensures.value
     ∙ ap₂ (λ (x : ℕ) (ds : List ℕ). spread (q - m * x) ds) f (front s.count s.demands) in
-    let r = assess_room₂ s wide flags_wide q m c.requires _ _ _ _ mins shares c.raise-rc.ensures refl in
+    let r = assess_room₂ s wide flags_wide q m c.requires _ _ _ _ mins shares c.raise_rc.ensures refl in
     record { few = r.0; low = r.1; small = r.2 }
 
-pub invariant-of-self : goal.invariant-of-self
-invariant-of-self c =
+pub invariant_of-self : goal.invariant_of-self
+invariant_of-self c =
     let s = c.args.self.now in
     let wide : length s.demands ≡ 64 = search rules in
     let flags_wide : length s.flags ≡ 64 = search rules in
     let q = c.args.charge in
     let m = c.args.minimum in
-    let f = c.count-flagged.ensures.value ∙ flagged_is s wide flags_wide q m in
-    let mins = minimums_are s wide flags_wide q m c.minimums-of-minimums.result c.minimums-of-minimums.ensures.value in
-    let shares = front_of s.count _ c.shares-of-shares.result _ (front_demands_long s wide flags_wide q m) c.shares-of-shares.ensures.value
+    let f = c.count_flagged.ensures.value ∙ flagged_is s wide flags_wide q m in
+    let mins = minimums_are s wide flags_wide q m c.minimums_of-minimums.result c.minimums_of-minimums.ensures.value in
+    let shares = front_of s.count _ c.shares_of-shares.result _ (front_demands_long s wide flags_wide q m) c.shares_of-shares.ensures.value
     ∙ ap₂ (λ (x : ℕ) (ds : List ℕ). spread (q - m * x) ds) f (front s.count s.demands) in
-    let k = assess_keeps s wide flags_wide q m c.requires _ _ _ _ mins shares c.raise-rc.ensures c.raise-rc-2.ensures in
-    (k.0, (s.few, (k.1, (k.2, ((passed s wide flags_wide q m c.requires).bound, (s.light, tt))))))
+    let k = assess_keeps s wide flags_wide q m c.requires _ _ _ _ mins shares c.raise_rc.ensures c.raise_rc-2.ensures in
+    record { whole = k.0; few = s.few; bounded = k.1; owed = k.2; limited = (passed s wide flags_wide q m c.requires).bound; light = s.light }
 
 pub returns : goal.returns
 returns c =
@@ -90,8 +90,8 @@ returns c =
     let flags_wide : length s.flags ≡ 64 = search rules in
     let q = c.args.charge in
     let m = c.args.minimum in
-    let f = c.count-flagged.ensures.value ∙ flagged_is s wide flags_wide q m in
-    let mins = minimums_are s wide flags_wide q m c.minimums-of-minimums.result c.minimums-of-minimums.ensures.value in
-    let shares = front_of s.count _ c.shares-of-shares.result _ (front_demands_long s wide flags_wide q m) c.shares-of-shares.ensures.value
+    let f = c.count_flagged.ensures.value ∙ flagged_is s wide flags_wide q m in
+    let mins = minimums_are s wide flags_wide q m c.minimums_of-minimums.result c.minimums_of-minimums.ensures.value in
+    let shares = front_of s.count _ c.shares_of-shares.result _ (front_demands_long s wide flags_wide q m) c.shares_of-shares.ensures.value
     ∙ ap₂ (λ (x : ℕ) (ds : List ℕ). spread (q - m * x) ds) f (front s.count s.demands) in
-    assess_left s wide flags_wide q m c.requires _ _ _ _ mins shares c.raise-rc.ensures c.raise-rc-2.ensures
+    assess_left s wide flags_wide q m c.requires _ _ _ _ mins shares c.raise_rc.ensures c.raise_rc-2.ensures

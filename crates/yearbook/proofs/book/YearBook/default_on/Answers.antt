@@ -26,23 +26,23 @@ returns-then-unpaid-self c =
     let wide : length s.demands ≡ 64 = search rules in
     record { taken = default_14 s wide c.args.debtor c.args.unpaid (omega arith) (sym c.if-not-between.ensures) (omega arith); unaltered = refl }
 
-pub can-spread-requires : goal.can-spread-requires
-can-spread-requires c =
+pub can_spread-requires : goal.can_spread-requires
+can_spread-requires c =
     let s = c.args.self.now in
     let wide : length s.demands ≡ 64 = search rules in
     let e = ap total (weights_are s wide c.args.debtor c.args.unpaid) in
     let l = weights_light s wide c.args.debtor c.args.unpaid in
     omega arith
 
-pub returns-then-not-can-spread : goal.returns-then-not-can-spread
-returns-then-not-can-spread c =
+pub returns-then-not-can_spread : goal.returns-then-not-can_spread
+returns-then-not-can_spread c =
     let s = c.args.self.now in
     let wide : length s.demands ≡ 64 = search rules in
     let e = weights_are s wide c.args.debtor c.args.unpaid in
-    record { taken = default_17 s wide c.args.debtor c.args.unpaid (omega arith) (sym c.if-not-between.ensures) (omega arith) (ap (spreadable c.args.unpaid) (sym e) ∙ sym c.if-not-can-spread.ensures); unaltered = refl }
+    record { taken = default_17 s wide c.args.debtor c.args.unpaid (omega arith) (sym c.if-not-between.ensures) (omega arith) (ap (spreadable c.args.unpaid) (sym e) ∙ sym c.if-not-can_spread.ensures); unaltered = refl }
 
-pub shares-of-shares-requires : goal.shares-of-shares-requires
-shares-of-shares-requires c =
+pub shares_of-shares-requires : goal.shares_of-shares-requires
+shares_of-shares-requires c =
     let s = c.args.self.now in
     let wide : length s.demands ≡ 64 = search rules in
     let e = weights_are s wide c.args.debtor c.args.unpaid in
@@ -55,29 +55,29 @@ shares-of-shares-requires c =
       demand = omega (arith, ap total e);
     }
 
-pub raise-rc-requires : goal.raise-rc-requires
-raise-rc-requires c =
+pub raise_rc-requires : goal.raise_rc-requires
+raise_rc-requires c =
     let s = c.args.self.now in
     let wide : length s.demands ≡ 64 = search rules in
     let d = c.args.debtor in
     let u = c.args.unpaid in
     let e = weights_are s wide d u in
-    let carries = ap (spreadable u) (sym e) ∙ sym c.if-not-can-spread.ensures in
-    let given = front_of s.count _ c.shares-of-shares.result _ (ap length e ∙ weights_long s wide d u) c.shares-of-shares.ensures.value ∙ ap (spread u) e in
-    let r = default_room s wide d u (omega arith) (sym c.if-not-between.ensures) (omega arith) carries _ _ _ c.pay-rc.ensures given refl in
+    let carries = ap (spreadable u) (sym e) ∙ sym c.if-not-can_spread.ensures in
+    let given = front_of s.count _ c.shares_of-shares.result _ (ap length e ∙ weights_long s wide d u) c.shares_of-shares.ensures.value ∙ ap (spread u) e in
+    let r = default_room s wide d u (omega arith) (sym c.if-not-between.ensures) (omega arith) carries _ _ _ c.pay_rc.ensures given refl in
     record { few = r.0; low = r.1; small = r.2 }
 
-pub invariant-of-self : goal.invariant-of-self
-invariant-of-self c =
+pub invariant_of-self : goal.invariant_of-self
+invariant_of-self c =
     let s = c.args.self.now in
     let wide : length s.demands ≡ 64 = search rules in
     let d = c.args.debtor in
     let u = c.args.unpaid in
     let e = weights_are s wide d u in
-    let carries = ap (spreadable u) (sym e) ∙ sym c.if-not-can-spread.ensures in
-    let given = front_of s.count _ c.shares-of-shares.result _ (ap length e ∙ weights_long s wide d u) c.shares-of-shares.ensures.value ∙ ap (spread u) e in
-    let r = default_keeps s wide d u (omega arith) (sym c.if-not-between.ensures) (omega arith) carries _ _ _ c.pay-rc.ensures given c.raise-rc.ensures in
-    (r.0, (s.few, (r.1, (r.2, (s.limited, (s.light, tt))))))
+    let carries = ap (spreadable u) (sym e) ∙ sym c.if-not-can_spread.ensures in
+    let given = front_of s.count _ c.shares_of-shares.result _ (ap length e ∙ weights_long s wide d u) c.shares_of-shares.ensures.value ∙ ap (spread u) e in
+    let r = default_keeps s wide d u (omega arith) (sym c.if-not-between.ensures) (omega arith) carries _ _ _ c.pay_rc.ensures given c.raise_rc.ensures in
+    record { whole = r.0; few = s.few; bounded = r.1; owed = r.2; limited = s.limited; light = s.light }
 
 pub returns : goal.returns
 returns c =
@@ -86,6 +86,6 @@ returns c =
     let d = c.args.debtor in
     let u = c.args.unpaid in
     let e = weights_are s wide d u in
-    let carries = ap (spreadable u) (sym e) ∙ sym c.if-not-can-spread.ensures in
-    let given = front_of s.count _ c.shares-of-shares.result _ (ap length e ∙ weights_long s wide d u) c.shares-of-shares.ensures.value ∙ ap (spread u) e in
-    record { taken = default_done s wide d u (omega arith) (sym c.if-not-between.ensures) (omega arith) carries _ _ _ c.pay-rc.ensures given c.raise-rc.ensures; unaltered = tt }
+    let carries = ap (spreadable u) (sym e) ∙ sym c.if-not-can_spread.ensures in
+    let given = front_of s.count _ c.shares_of-shares.result _ (ap length e ∙ weights_long s wide d u) c.shares_of-shares.ensures.value ∙ ap (spread u) e in
+    record { taken = default_done s wide d u (omega arith) (sym c.if-not-between.ensures) (omega arith) carries _ _ _ c.pay_rc.ensures given c.raise_rc.ensures; unaltered = tt }

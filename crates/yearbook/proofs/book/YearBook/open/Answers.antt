@@ -11,32 +11,32 @@ use Rattle.yearbook.proofs.Opening.{opened_is, fresh_keeps}
 use Rattle.yearbook.proofs.Taken.{refused_leaves, accepted_leaves}
 use Rattle.yearbook.proofs.book.YearBook.open.Goals as goal
 
-pub returns-in-err-check-terms : goal.returns-in-err-check-terms
-returns-in-err-check-terms c =
-    let p = err_from_is_err_and c.from-residual.result c.from-residual.ensures.1 in
-    let e = c.in-err-check-terms.ensures in
+pub returns-in_err-check_terms : goal.returns-in_err-check_terms
+returns-in_err-check_terms c =
+    let p = err_from_is_err_and c.from_residual.result c.from_residual.ensures.1 in
+    let e = c.in_err-check_terms.ensures in
     record { answered = rw (p.1, p.2) e; left = refused_leaves _ tt _ _ _ e; unaltered = rw p.1 refl }
 
-pub kept-demands-self-requires : goal.kept-demands-self-requires
-kept-demands-self-requires c =
+pub kept_demands-self-requires : goal.kept_demands-self-requires
+kept_demands-self-requires c =
     let t : Terms = record { demands = c.args.demands.now; flags = c.args.flags.now } in
-    (open_passed t (ok_answer _ tt tt c.in-ok-check-terms.ensures)).few
+    (open_passed t (ok_answer _ tt tt c.in_ok-check_terms.ensures)).few
 
-pub kept-flags-self-requires : goal.kept-flags-self-requires
-kept-flags-self-requires c =
+pub kept_flags-self-requires : goal.kept_flags-self-requires
+kept_flags-self-requires c =
     let t : Terms = record { demands = c.args.demands.now; flags = c.args.flags.now } in
-    let p = open_passed t (ok_answer _ tt tt c.in-ok-check-terms.ensures) in
+    let p = open_passed t (ok_answer _ tt tt c.in_ok-check_terms.ensures) in
     omega arith
 
-pub invariant-of-self : goal.invariant-of-self
-invariant-of-self c =
+pub invariant_of-self : goal.invariant_of-self
+invariant_of-self c =
     let t : Terms = record { demands = c.args.demands.now; flags = c.args.flags.now } in
-    let p = open_passed t (ok_answer _ tt tt c.in-ok-check-terms.ensures) in
+    let p = open_passed t (ok_answer _ tt tt c.in_ok-check_terms.ensures) in
     let k = fresh_keeps (length t.demands) c.new-self.result.table p.few c.new-self.ensures in
-    (k.0, (p.few, (k.1, (k.2, (omega arith, (let e = ap total c.kept-demands-self.ensures in let l = p.demands_bound in omega arith, tt))))))
+    record { whole = k.0; few = p.few; bounded = k.1; owed = k.2; limited = omega arith; light = let e = ap total c.kept_demands-self.ensures in let l = p.demands_bound in omega arith }
 
 pub returns : goal.returns
 returns c =
     let t : Terms = record { demands = c.args.demands.now; flags = c.args.flags.now } in
-    let ok = ok_answer _ tt tt c.in-ok-check-terms.ensures in
-    record { answered = c.in-ok-check-terms.ensures; left = accepted_leaves _ _ _ _ ok (opened_is t ok _ _ _ c.new-self.ensures c.kept-demands-self.ensures c.kept-flags-self.ensures); unaltered = tt }
+    let ok = ok_answer _ tt tt c.in_ok-check_terms.ensures in
+    record { answered = c.in_ok-check_terms.ensures; left = accepted_leaves _ _ _ _ ok (opened_is t ok _ _ _ c.new-self.ensures c.kept_demands-self.ensures c.kept_flags-self.ensures); unaltered = tt }

@@ -14,8 +14,8 @@ returns-then-not-between c =
     let wide : length s.demands ≡ 64 = search rules in
     record { taken = pay_market_13 s wide c.args.coordinator c.args.amount (omega arith) (sym c.if-not-between.ensures); unaltered = refl }
 
-pub move-market-requires : goal.move-market-requires
-move-market-requires c =
+pub move_market-requires : goal.move_market-requires
+move_market-requires c =
     let u = at_most c.args.amount (sym c.if-not-between.ensures) in
     record { here = omega arith; small = rw (negated c.args.amount u) (negated_within c.args.amount u) }
 
@@ -24,4 +24,4 @@ returns c =
     let s = c.args.self.now in
     let wide : length s.demands ≡ 64 = search rules in
     let v = sym c.if-not-between.ensures in
-    record { taken = pay_market_last s wide c.args.coordinator c.args.amount (omega arith) v _ (negated c.args.amount (at_most c.args.amount v)) _ _ c.move-market.ensures.answered c.move-market.ensures.left; unaltered = c.move-market.ensures.unaltered }
+    record { taken = pay_market_last s wide c.args.coordinator c.args.amount (omega arith) v _ (negated c.args.amount (at_most c.args.amount v)) _ _ c.move_market.ensures.answered c.move_market.ensures.left; unaltered = c.move_market.ensures.unaltered }

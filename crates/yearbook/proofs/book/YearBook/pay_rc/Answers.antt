@@ -21,18 +21,18 @@ returns-then-amount-self c =
     let wide : length s.demands ≡ 64 = search rules in
     record { taken = pay_rc_14 s wide c.args.coordinator c.args.amount (omega arith) (sym c.if-not-between.ensures) (omega arith); unaltered = refl }
 
-pub invariant-of-self : goal.invariant-of-self
-invariant-of-self c =
+pub invariant_of-self : goal.invariant_of-self
+invariant_of-self c =
     let s = c.args.self.now in
-    let e = c.pay-rc.ensures in
+    let e = c.pay_rc.ensures in
     let n = s.count in
     let t = s.accounts.table in
     let k = c.args.coordinator in
     let a = c.args.amount in
-    (whole_after t _ k _ e s.whole, (s.few, (bounded_rc n t _ k a (omega arith) e s.bounded, (rcs_paid n t _ k a _ s.few s.whole (omega arith) e s.owed, (s.limited, (s.light, tt))))))
+    record { whole = whole_after t _ k _ e s.whole; few = s.few; bounded = bounded_rc n t _ k a (omega arith) e s.bounded; owed = rcs_paid n t _ k a _ s.few s.whole (omega arith) e s.owed; limited = s.limited; light = s.light }
 
 pub returns : goal.returns
 returns c =
     let s = c.args.self.now in
     let wide : length s.demands ≡ 64 = search rules in
-    record { taken = pay_rc_done s wide c.args.coordinator c.args.amount (omega arith) (sym c.if-not-between.ensures) (omega arith) _ c.pay-rc.ensures; unaltered = tt }
+    record { taken = pay_rc_done s wide c.args.coordinator c.args.amount (omega arith) (sym c.if-not-between.ensures) (omega arith) _ c.pay_rc.ensures; unaltered = tt }

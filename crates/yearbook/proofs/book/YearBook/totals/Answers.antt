@@ -5,20 +5,20 @@ use Rattle.yearbook.specs.Accounts.{empty_account, rcs, markets}
 use Rattle.yearbook.proofs.Sides.{within_out, markets_more, rcs_more, rcs_front, sum_small, sum_small_fits}
 use Rattle.yearbook.proofs.book.YearBook.totals.Goals as goal
 
-pub overflow-add-market : goal.overflow-add-market
-overflow-add-market c =
+pub overflow_add-market : goal.overflow_add-market
+overflow_add-market c =
     let s = c.args.self.now in
     let i = c.loop-i.i in
     let z : ℤ = (get_or s.accounts.table i empty_account).market in
     let fz : SFits w64 z = search rules in
     let few = s.few in
     let low = within_out _ z (s.bounded i c.loop-i-test.true) in
-    let mi = c.loop-i.market_is in
+    let mi = c.loop-i.market-is in
     let v : nat_abs c.loop-i.market ≤ 1000000000000000 * i = rw mi at c.loop-i.invariant.1 in
     simp (mi, to_z-of_z) (sum_small_fits (c.loop-i.market +ℤ z) (i + 1) (omega arith) (sum_small c.loop-i.market z i v low))
 
-pub overflow-add-rc : goal.overflow-add-rc
-overflow-add-rc c =
+pub overflow_add-rc : goal.overflow_add-rc
+overflow_add-rc c =
     let s = c.args.self.now in
     let few = s.few in
     let whole = s.whole in
@@ -38,7 +38,7 @@ loop-i-preserved c =
     let few = s.few in
     let whole = s.whole in
     let low = within_out _ z (s.bounded i c.loop-i-test.true) in
-    let mi = c.loop-i.market_is in
+    let mi = c.loop-i.market-is in
     let v : nat_abs c.loop-i.market ≤ 1000000000000000 * i = rw mi at c.loop-i.invariant.1 in
     let b = sum_small c.loop-i.market z i v low in
     let fs = sum_small_fits (c.loop-i.market +ℤ z) (i + 1) (omega arith) b in
