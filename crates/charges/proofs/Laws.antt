@@ -1,6 +1,6 @@
 -- The laws of the five charges together.
 use Rattle.charges.specs.Laws.{FiguresArrive, ChargesBounded}
-use Rattle.charges.specs.MarketServicesFacts.{market_arrives, market_bounded}
+use Rattle.charges.proofs.MarketServicesHours.{market_arrives, market_bounded}
 use Rattle.charges.specs.SystemOperationsFacts.{system_arrives, system_bounded}
 use Rattle.charges.specs.BidSegmentFacts.{segment_arrives, segment_bounded}
 use Rattle.charges.specs.TorFacts.{tor_arrives, tor_bounded}

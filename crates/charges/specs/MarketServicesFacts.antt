@@ -1,4 +1,4 @@
--- Market Services: its running figures arrive, and how large they are.
+-- Market Services: what the laws of its figures and of its charge rest on.
 use Rattle.std.specs.Prelude.{◌≡◌, ℕ, ◌+◌, ◌-◌, ◌*◌, ◌≤◌, cond, ◌&&◌, List, [], ◌∷◌, length, ℤ, pos, ◌+ℤ◌, fold, FitsSigned, ◌==◌, nat_le, unsigned_abs}
 use Rattle.std.proofs.Common.{arith, ap₂, sym, subst, ◌∙◌, to_z, of_z}
 use Rattle.std.proofs.Math.Path.{refl, ap}
@@ -12,7 +12,7 @@ use Rattle.charges.specs.declared.market_services.HourEnergy.{HourEnergy}
 use Rattle.charges.specs.declared.group.ByHour.{ByHour}
 use Rattle.charges.specs.declared.group.ByInterval.{ByInterval}
 use Rattle.charges.specs.Rules.{Bounded}
-use Rattle.charges.specs.Charges.{only, from_to, gross, energy, tor_balance, hour_kwh, market_services}
+use Rattle.charges.specs.Charges.{only, from_to, gross, by_interval, energy, tor_balance, hour_kwh, market_services}
 use Rattle.charges.specs.Running.{run, Reached, netting, adding_up, interval_by_interval, energy_figures, balance_figures, hour_figures, market_figures}
 use Rattle.charges.specs.Order.{InOrder, pair_in_order}
 use Rattle.charges.specs.Runs.{netted, summed, from_interval, by_hour_run, by_interval_run}
@@ -31,11 +31,11 @@ energy_parts : (a : IntervalEnergy) (rs : List Row) → fold energy_figures.add 
 energy_parts a [] = refl
 energy_parts a (r ∷ rs) = energy_parts (energy_figures.add a r) rs
 
-energy_run : (rs : List Row) → run energy_figures rs ≡ energy rs
+pub energy_run : (rs : List Row) → run energy_figures rs ≡ energy rs
 energy_run rs = ap energy_figures.total (energy_parts energy_figures.start rs)
     ∙ ap₂ ◌+◌ (ap unsigned_abs (netted (only 1) rs)) (ap₂ ◌+◌ (ap unsigned_abs (netted (only 2) rs)) (ap unsigned_abs (netted (from_to 3 7) rs)))
 
-energy_under : Under energy (λ r. passing (only 1) size r + (passing (only 2) size r + passing (from_to 3 7) size r))
+pub energy_under : Under energy (λ r. passing (only 1) size r + (passing (only 2) size r + passing (from_to 3 7) size r))
 energy_under = both_under _ _ _ _ (net_under (only 1)) (both_under _ _ _ _ (net_under (only 2)) (net_under (from_to 3 7)))
 
 energy_kinds_apart : (kind m : ℕ) → cond (kind == 1) m 0 + (cond (kind == 2) m 0 + cond (nat_le 3 kind && nat_le kind 7) m 0) ≤ m
@@ -97,7 +97,7 @@ balance_net : (a : ℤ) (rs : List Row) → (fold balance_figures.add (record { 
 balance_net a [] = refl
 balance_net a (r ∷ rs) = balance_net ((netting (only 8)).add a r) rs
 
-balance_run : (rs : List Row) → run balance_figures rs ≡ tor_balance rs
+pub balance_run : (rs : List Row) → run balance_figures rs ≡ tor_balance rs
 balance_run rs = ap unsigned_abs (balance_net (pos 0) rs ∙ netted (only 8) rs)
 
 pub balance_figures_bounded : FiguresBounded balance_figures 4000000
@@ -118,7 +118,7 @@ module _ (a : IntervalBalance) (r : Row) (h : Reached balance_figures 2047 a) (k
 
 -- ---- an hour
 
-hour_parts : (a : HourEnergy) (rs : List Row) → fold hour_figures.add a rs ≡ record {
+pub hour_parts : (a : HourEnergy) (rs : List Row) → fold hour_figures.add a rs ≡ record {
   energy = fold (interval_by_interval energy_figures).add a.energy rs;
   balance = fold (interval_by_interval balance_figures).add a.balance rs;
   awards = fold (adding_up (from_to 9 14)).add a.awards rs;
@@ -157,28 +157,16 @@ module _ (n : ℕ) (a : HourEnergy) (h : Reached hour_figures n a) where
 
 -- ---- the charge
 
-module _ (coordinator resource : ℕ) where
-  passes : (r : Row) → OfPair coordinator resource r → Passes r
-  passes r w = w.passes
-
-  hour_run : (rs : List Row) → InOrder (OfPair coordinator resource) from_interval rs → run hour_figures rs ≡ hour_kwh rs
-  hour_run rs h =
-      ap hour_figures.total (hour_parts hour_figures.start rs)
-      ∙ ap₂ ◌+◌
-      (ap₂ ◌-◌
-      (by_interval_run (OfPair coordinator resource) passes energy_figures energy refl (λ l _. energy_run l) rs h)
-      (by_interval_run (OfPair coordinator resource) passes balance_figures tor_balance refl (λ l _. balance_run l) rs h))
-      (summed (from_to 9 14) size rs)
-
-  pub market_arrives : (rs : List Row) → PairRows coordinator resource rs → 100 * run market_figures rs ≡ market_services coordinator resource rs
-  unfolding market_services
-  market_arrives rs p = ap (λ x. 100 * x) (by_hour_run (OfPair coordinator resource) passes hour_figures hour_kwh refl hour_run rs (pair_in_order coordinator resource rs p))
-
 pub market_figures_bounded : FiguresBounded market_figures 8000000
 market_figures_bounded = group_bounded ByHour hour_figures 8000000 hour_figures_bounded (λ r. r.key.hour) 1
 
-hour_under : Under hour_kwh (λ r. (passing (only 1) size r + (passing (only 2) size r + passing (from_to 3 7) size r)) + passing (from_to 9 14) size r)
-hour_under rs =
+-- what a row counts for at most, under its kind
+abbrev pub worth : Row → ℕ
+worth r = (passing (only 1) size r + (passing (only 2) size r + passing (from_to 3 7) size r)) + passing (from_to 9 14) size r
+
+-- energy less TOR balance, and the awards, in an hour's rows
+pub energy_and_awards_under : Under (λ rs. (by_interval rs energy - by_interval rs tor_balance) + gross (from_to 9 14) rs) worth
+energy_and_awards_under rs =
     let a = groups_under (λ r. r.key.interval) 0 13 energy _ energy_under rs in
     let b = gross_under (from_to 9 14) rs in
     omega (arith, over_add (λ r. passing (only 1) size r + (passing (only 2) size r + passing (from_to 3 7) size r)) (passing (from_to 9 14) size) rs)
@@ -186,9 +174,9 @@ hour_under rs =
 kinds_apart : (kind m : ℕ) → (cond (kind == 1) m 0 + (cond (kind == 2) m 0 + cond (nat_le 3 kind && nat_le kind 7) m 0)) + cond (nat_le 9 kind && nat_le kind 14) m 0 ≤ m
 kinds_apart kind m = grind arith
 
-pub market_bounded : Bounded market_services
+pub market_bounded_by : Under hour_kwh worth → Bounded market_services
 unfolding market_services
-market_bounded coordinator resource rs h =
-    let a = groups_under (λ r. r.key.hour) 1 25 hour_kwh _ hour_under rs in
+market_bounded_by under coordinator resource rs h =
+    let a = groups_under (λ r. r.key.hour) 1 25 hour_kwh _ under rs in
     let b = over_le _ size (λ r. kinds_apart r.key.kind (size r)) rs in
     hundredfold (length rs) a b (pair_sizes_low coordinator resource rs h)

@@ -1,7 +1,7 @@
 // Market Services: the energy of each hour's intervals, less its TOR balance, and its awards.
 ghost use Rattle.charges.specs.Charges.{market_services};
 ghost use Rattle.charges.specs.Running.{balance_figures, energy_figures, hour_figures};
-ghost use Rattle.charges.specs.MarketServicesFacts.{energy_figures_bounded, balance_figures_bounded, hour_figures_bounded, market_bounded};
+ghost use Rattle.charges.specs.MarketServicesFacts.{energy_figures_bounded, balance_figures_bounded, hour_figures_bounded, energy_and_awards_under, market_bounded_by};
 ghost use Rattle.std.proofs.Common.{rules};
 
 use crate::figures::Figures;
@@ -128,7 +128,7 @@ impl ChargeRule for MarketServices {
 
     ghost code_low = { Prim.search rules };
 
-    ghost bounded = { λ x. market_bounded };
+    ghost bounded = { λ x. market_bounded_by energy_and_awards_under };
 
     fn tell_code(&self) -> u8 {
         0

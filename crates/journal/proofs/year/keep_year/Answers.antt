@@ -7,17 +7,17 @@ use Rattle.journal.specs.Entries.{call_of, written}
 use Rattle.journal.proofs.Kept.{kept_opening, kept_refused, answers_opening, answers_refused}
 use Rattle.journal.proofs.year.keep_year.Goals as goal
 
-pub returns-in-err-open-year : goal.returns-in-err-open-year
-returns-in-err-open-year g c =
+pub returns-in_err-open_year : goal.returns-in_err-open_year
+returns-in_err-open_year g c =
     let t : Terms = record { demands = c.args.demands.now; flags = c.args.flags.now } in
     let calls = map (call_of g.R.ChargeRule.code g.R.ChargeRule.quantity) c.args.entries.now in
-    let p = err_from_is_err_and c.from-residual.result c.from-residual.ensures.1 in
-    let e = c.in-err-open-year.ensures.opened in
+    let p = err_from_is_err_and c.from_residual.result c.from_residual.ensures.1 in
+    let e = c.in_err-open_year.ensures.opened in
     let refused = err_answer _ tt _ e in
     record {
       opened = rw (p.1, p.2) e;
-      unaltered = rw p.1 c.in-err-open-year.ensures.unaltered;
-      law = kept_refused t calls (book_of c.args.book.now) _ refused _ c.in-err-open-year.ensures.law;
+      unaltered = rw p.1 c.in_err-open_year.ensures.unaltered;
+      law = kept_refused t calls (book_of c.args.book.now) _ refused _ c.in_err-open_year.ensures.law;
       answered = answers_refused t calls (book_of c.args.book.now) _ refused _;
     }
 
@@ -25,11 +25,11 @@ pub returns : goal.returns
 returns g c =
     let t : Terms = record { demands = c.args.demands.now; flags = c.args.flags.now } in
     let calls = map (call_of g.R.ChargeRule.code g.R.ChargeRule.quantity) c.args.entries.now in
-    let o = c.in-ok-open-year.ensures in
+    let o = c.in_ok-open_year.ensures in
     let ok = ok_answer _ tt tt o.opened in
     record {
       opened = o.opened;
       unaltered = tt;
-      law = kept_opening t calls (book_of c.args.book.now) ok _ _ o.law c.enter-all.ensures.law;
-      answered = c.enter-all.ensures.answered ∙ ap (written _) (answers_opening t calls (book_of c.args.book.now) ok _ o.law);
+      law = kept_opening t calls (book_of c.args.book.now) ok _ _ o.law c.enter_all.ensures.law;
+      answered = c.enter_all.ensures.answered ∙ ap (written _) (answers_opening t calls (book_of c.args.book.now) ok _ o.law);
     }

@@ -3,5 +3,5 @@ use Rattle.year.specs.Terms.{terms_of}
 use Rattle.journal.proofs.Kept.{any_opening}
 use Rattle.journal.proofs.kept_book.KeptBook.open.Goals as goal
 
-pub invariant-of-self : goal.invariant-of-self
-invariant-of-self c = (∥∥₁_map c.args.self.now.law (any_opening (terms_of c.args.demands.now c.args.flags.now) _ _ c.open-year.ensures.law), tt)
+pub invariant_of-self : goal.invariant_of-self
+invariant_of-self c = (∥∥₁_map c.args.self.now.law (any_opening (terms_of c.args.demands.now c.args.flags.now) _ _ c.open_year.ensures.law), tt)
