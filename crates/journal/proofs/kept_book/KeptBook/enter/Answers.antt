@@ -6,4 +6,4 @@ use Rattle.journal.proofs.kept_book.KeptBook.enter.Goals as goal
 pub invariant_of-self : goal.invariant_of-self
 invariant_of-self g c =
     let call = call_of g.R.ChargeRule.code g.R.ChargeRule.quantity c.args.entry.now in
-    (∥∥₁_map c.args.self.now.law (any_more _ _ call c.enter.ensures.taken.left), tt)
+    record { law = ∥∥₁_map c.args.self.now.law (any_more _ _ call c.enter.ensures.taken.left) }
