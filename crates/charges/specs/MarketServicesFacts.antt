@@ -5,7 +5,7 @@ use Rattle.std.proofs.Math.Path.{refl, ap}
 use Rattle.std.specs.Int.{w64}
 use Rattle.std.proofs.lemmas.Bool.{ne_eqb, le-leb}
 use Rattle.sheet.specs.declared.row.Row.{Row}
-use Rattle.sheet.specs.Sheets.{OfPair, PairRows, Passes}
+use Rattle.sheet.specs.Sheets.{Passes}
 use Rattle.charges.specs.declared.market_services.IntervalEnergy.{IntervalEnergy}
 use Rattle.charges.specs.declared.market_services.IntervalBalance.{IntervalBalance}
 use Rattle.charges.specs.declared.market_services.HourEnergy.{HourEnergy}
@@ -14,8 +14,7 @@ use Rattle.charges.specs.declared.group.ByInterval.{ByInterval}
 use Rattle.charges.specs.Rules.{Bounded}
 use Rattle.charges.specs.Charges.{only, from_to, gross, by_interval, energy, tor_balance, hour_kwh, market_services}
 use Rattle.charges.specs.Running.{run, Reached, netting, adding_up, interval_by_interval, energy_figures, balance_figures, hour_figures, market_figures}
-use Rattle.charges.specs.Order.{InOrder, pair_in_order}
-use Rattle.charges.specs.Runs.{netted, summed, from_interval, by_hour_run, by_interval_run}
+use Rattle.charges.specs.Runs.{netted, summed}
 use Rattle.charges.specs.SumsLemmas.{over_add, over_le, passing}
 use Rattle.charges.specs.Sizes.{Under, size, net_low, gross_low, net_under, gross_under, both_under, groups_under, sizes_low, pair_sizes_low, hundredfold}
 use Rattle.charges.specs.Reached.{FiguresBounded, reached_low, reached_part, gross_reached, abs_back, added, added_fits, added_is}

@@ -1,5 +1,5 @@
 -- How large figures after so many rows are, and that the code's sums of them fit.
-use Rattle.std.specs.Prelude.{◌≡◌, ℕ, ◌+◌, ◌*◌, ◌≤◌, Bool, List, [], length, ℤ, ◌+ℤ◌, ◌-ℤ◌, FitsSigned, unsigned_abs, refl}
+use Rattle.std.specs.Prelude.{◌≡◌, ℕ, ◌*◌, ◌≤◌, Bool, List, [], length, ℤ, ◌+ℤ◌, ◌-ℤ◌, FitsSigned, unsigned_abs, refl}
 use Rattle.std.proofs.Common.{arith, mul-le-mul_left, ap, sym, subst, ◌∙◌, to_z, of_z}
 use borrow.Author.Differences.{abs_is}
 use Rattle.std.specs.Int.{w32, w64}

@@ -1,5 +1,5 @@
 -- System Operations: its running figures arrive, and how large they are.
-use Rattle.std.specs.Prelude.{◌≡◌, ℕ, ◌+◌, ◌*◌, ◌≤◌, cond, List, [], ◌∷◌, length, ℤ, ◌+ℤ◌, ◌-ℤ◌, fold, FitsSigned, ◌==◌, unsigned_abs, refl}
+use Rattle.std.specs.Prelude.{◌≡◌, ℕ, ◌+◌, ◌*◌, ◌≤◌, cond, List, [], ◌∷◌, length, ◌+ℤ◌, ◌-ℤ◌, fold, FitsSigned, ◌==◌, unsigned_abs, refl}
 use Rattle.std.proofs.Common.{arith, ap, ap₂, sym, ◌∙◌, to_z, of_z}
 use Rattle.std.specs.Int.{w64}
 use Rattle.std.specs.List.{AllByRecursion as All}

@@ -1,4 +1,6 @@
 // Charge rules: what a rule means, the walk over a pair's rows, the five charges, and what a rule bills a coordinator.
+#![tactic(auto)]
+
 pub mod bid_segment;
 pub mod figures;
 pub mod group;

@@ -2,7 +2,7 @@
 use Rattle.std.proofs.Common.{◌≡◌, ℕ, true, ◌&&◌, eqb, List, sym, ◌∙◌, subst, inl, inr}
 use Rattle.std.proofs.lemmas.Bool.{cases_Bool, and_parts, eqb-true}
 use Rattle.concessions.specs.declared.allowances.Allowance.{Allowance}
-use Rattle.concessions.specs.Concessions.{allowance_of, Entered, SameAllowances, EnteredDecides}
+use Rattle.concessions.specs.Concessions.{allowance_of, Entered, EnteredDecides}
 
 -- of the pair itself
 own : (coordinator resource allowance : ℕ) (before after : List Allowance) → Entered coordinator resource allowance before after → (c r : ℕ) → (eqb coordinator c && eqb resource r) ≡ true → allowance_of c r after ≡ allowance

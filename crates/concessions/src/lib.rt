@@ -1,4 +1,6 @@
 // Concessions: exclusion, grandfathering and ramp-in, each a charge rule made over another; the rules as they are posted.
+#![tactic(auto)]
+
 pub mod allowances;
 pub mod exclusion;
 pub mod fault;

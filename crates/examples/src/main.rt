@@ -1,4 +1,5 @@
 // Runs the worked examples through the public calls, and prints of each what came out and whether that was expected.
+#![tactic(auto)]
 
 mod quotes;
 mod rows;

@@ -1,4 +1,6 @@
 // The engine for programs in other languages: a year of posts in one call.
+#![tactic(auto)]
+
 use charges::bid_segment::BidSegment;
 use charges::tor::Tor;
 use charges::trade_fee::TradeFee;

@@ -1,4 +1,6 @@
 // gmc: does the commands of a journal, one to a line, and prints what each is answered.
+#![tactic(auto)]
+
 mod charge;
 mod command;
 mod engine;

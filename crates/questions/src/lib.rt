@@ -1,4 +1,6 @@
 // How a call asks its questions: a refusal names the question, the layer that asks it and the place.
+#![tactic(auto)]
+
 use std::fmt;
 
 // The part of the engine that asks a question.

@@ -1,17 +1,13 @@
 -- What an accepted sheet keeps to: at most 2,048 rows, keys that ascend strictly, keys in range, quantities within bounds.
-use Rattle.std.proofs.Common.{◌≡◌, ℕ, zero, suc, ◌+◌, ◌*◌, ◌<◌, ◌≤◌, Bool, true, false, ◌&&◌, ◌||◌, eqb, ltb, leb, ◌⊎◌, List, [], ◌∷◌, length, get_or, pos, nat_abs, is_some, Some, None, Option, sym, refl, ap, ◌∙◌, subst, subst₂, inl, inr, zero-add, add-one, arith}
-use Rattle.std.specs.List.{AllByRecursion as All}
-use Rattle.std.proofs.lemmas.List.FromFn.{length-map-range_with_len, get_or-map-range_with_len}
-use Rattle.std.proofs.ByRecursion.{All-from_get_or, All-weaker}
-use Rattle.std.proofs.lemmas.Bool.{and_parts, or_cases, leb-true, ltb-true, eqb-true, lt-ltb, eq-eqb}
-use Rattle.std.proofs.lemmas.Bool.Decides.{nat_tests}
-use Rattle.questions.specs.Questions.{Refusal, ask, in_turn}
+use Rattle.std.proofs.Common.{◌≡◌, ℕ, suc, ◌+◌, ◌*◌, ◌<◌, ◌≤◌, true, false, eqb, leb, List, length, is_some, Some, None, Option, refl, arith}
+use Rattle.std.proofs.lemmas.Bool.{and_parts, leb-true, eqb-true}
+use Rattle.questions.specs.Questions.{Refusal, in_turn}
 use Rattle.questions.proofs.Asked.{ask_passed, first_passed, turn_at}
 use Rattle.sheet.specs.declared.row.Key.{Key}
 use Rattle.sheet.specs.declared.row.Row.{Row}
-use Rattle.sheet.specs.Rows.{row_count, row_at, rows}
-use Rattle.sheet.specs.Questions.{below, key_bytes, ascends, in_range, known_kind, within, row_questions, row_refusal, previous_key, count_refusal, sheet_refusal, Accepted}
-use Rattle.sheet.specs.Sheets.{Ascending, Passes}
+use Rattle.sheet.specs.Rows.{row_count, row_at}
+use Rattle.sheet.specs.Questions.{below, key_bytes, ascends, row_questions, row_refusal, previous_key, count_refusal, sheet_refusal, Accepted}
+use Rattle.sheet.specs.Sheets.{Passes}
 
 none_if : (o : Option Refusal) → is_some o ≡ false → o ≡ None
 none_if None e = refl

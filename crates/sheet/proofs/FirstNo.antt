@@ -1,7 +1,7 @@
 -- The answer of check is the row count or the first no.
-use Rattle.std.proofs.Common.{◌≡◌, ℕ, zero, suc, ◌+◌, ◌*◌, ◌<◌, ◌≤◌, Bool, true, false, ◌&&◌, eqb, leb, ◌⊎◌, List, length, Some, None, Ok, Err, Option, Result, sym, refl, ap, ◌∙◌, subst, inl, inr, ⊎_elim, arith}
+use Rattle.std.proofs.Common.{◌≡◌, ℕ, zero, suc, ◌+◌, ◌*◌, ◌<◌, Bool, true, false, ◌&&◌, eqb, leb, ◌⊎◌, List, length, Some, None, Ok, Err, Option, Result, sym, refl, ap, ◌∙◌, subst, inl, inr, ⊎_elim, arith}
 use Rattle.std.proofs.lemmas.Bool.{and_parts, leb-true, eqb-true, eq-eqb, le-leb, both_ways, cases_eq, cases_lt}
-use Rattle.questions.specs.Questions.{Refusal, no_at, ask, first, in_turn, answer}
+use Rattle.questions.specs.Questions.{Refusal, no_at, in_turn, answer}
 use Rattle.questions.proofs.Asked.{ask_passed, ask_yes, ask_no, first_none, first_refused, by_refusal, turn_at, turn_first, some_none}
 use Rattle.sheet.specs.declared.row.Key.{Key}
 use Rattle.sheet.specs.declared.row.Row.{Row}

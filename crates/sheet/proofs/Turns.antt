@@ -1,5 +1,5 @@
 -- One turn of the loop over the rows.
-use Rattle.std.proofs.Common.{◌≡◌, ℕ, zero, ◌+◌, ◌<◌, ◌≤◌, List, Some, None, Ok, Err, Option, sym, refl, ap, ◌∙◌, add-one, arith}
+use Rattle.std.proofs.Common.{◌≡◌, ℕ, ◌+◌, ◌<◌, ◌≤◌, List, Some, None, Ok, Err, Option, sym, refl, ap, ◌∙◌, add-one, arith}
 use Rattle.questions.specs.Questions.{Refusal, acceptance, in_turn}
 use Rattle.questions.proofs.Asked.{turn_passed, turn_refused, ok_answer, err_answer}
 use Rattle.sheet.specs.declared.row.Key.{Key}

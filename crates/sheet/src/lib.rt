@@ -1,4 +1,6 @@
 // The day sheet: what its bytes say, and the five questions that it has to pass.
+#![tactic(auto)]
+
 pub mod check;
 pub mod fault;
 pub mod row;

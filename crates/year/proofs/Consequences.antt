@@ -1,5 +1,5 @@
 -- The consequences of the year law, each from the clause that it speaks of.
-use Rattle.std.proofs.Common.{◌≡◌, ℕ, zero, suc, ◌+◌, ◌-◌, ◌*◌, ◌/◌, ◌^◌, ◌<◌, ◌≤◌, leb, List, [], ◌∷◌, ◌++◌, length, get_or, ℤ, pos, negsuc, nat_abs, sym, refl, ap, ◌∙◌, subst, inr, mul-div_cancel, arith}
+use Rattle.std.proofs.Common.{◌≡◌, ℕ, zero, suc, ◌-◌, ◌*◌, ◌/◌, ◌^◌, ◌<◌, List, [], ◌∷◌, ◌++◌, length, ℤ, pos, negsuc, sym, refl, ap, ◌∙◌, subst, inr, mul-div_cancel, arith}
 use lib.Seq.{take-length}
 use Rattle.std.proofs.lemmas.Int.{ints}
 use Rattle.std.proofs.lemmas.Bool.{leb-true}
@@ -8,9 +8,9 @@ use Rattle.sheet.specs.Questions.{row_questions, row_refusal, count_refusal, she
 use Rattle.charges.specs.Rules.{Meaning, quantity_of, line, line_of}
 use Rattle.charges.specs.Sums.{total}
 use Rattle.year.specs.Spread.{SpreadLaw, quotient, spread}
-use Rattle.year.specs.Terms.{Terms, count, flagged}
+use Rattle.year.specs.Terms.{Terms, flagged}
 use Rattle.year.specs.Market.{pay_market, coordinators_refusal, balance_refusal, lines_refusal, post_refusal, adjust_refusal, pay_market_refusal, market_effect}
-use Rattle.year.specs.Rc.{assess, default, rc_balance, carrier_weights, minimums, assessment, spreadable, pay_rc_refusal, assess_refusal, default_refusal, passed_on, rc_effect}
+use Rattle.year.specs.Rc.{assess, default, carrier_weights, minimums, assessment, spreadable, pay_rc_refusal, assess_refusal, default_refusal, passed_on, rc_effect}
 use Rattle.year.specs.Book.{Book, Call, of_market, of_rc, no_market, no_rc, opened, Outcome, outcomes, accepted_calls}
 use Rattle.year.specs.Reading.{balances, totals}
 use Rattle.year.specs.Balances.{EachBalance}
@@ -19,7 +19,7 @@ use Rattle.year.specs.Defaults.{rises, WithinCent, DefaultLaw}
 use Rattle.year.specs.Isolation.{posts, adjusts, pays, neither, SameOutcome, SameOutcomes}
 use Rattle.year.specs.Year.{after}
 use Rattle.year.specs.Examples.{each_row}
-use Rattle.year.specs.Consequences.{four, year, one_year, other_year, double_row, tried, rises_by, SecondDefault, Thirds, thirds_of, Consequences}
+use Rattle.year.specs.Consequences.{four, year, one_year, other_year, double_row, tried, SecondDefault, Thirds, thirds_of, Consequences}
 use Rattle.year.proofs.Sums.{get_or_le_total}
 use Rattle.year.proofs.Ledger.{length_outcomes}
 

@@ -1,4 +1,6 @@
 // The year book's model and its law: what the book is, when each call is refused, what an accepted one does.
+#![tactic(auto)]
+
 pub mod shares;
 
 ghost use Rattle.year.specs.Consequences.{Consequences};

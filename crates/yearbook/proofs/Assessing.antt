@@ -1,12 +1,12 @@
 -- Assessing.
-use Rattle.std.proofs.Common.{◌≡◌, ℕ, zero, suc, ◌+◌, ◌-◌, ◌*◌, ◌<◌, ◌≤◌, Bool, true, false, cond, not, ◌&&◌, eqb, leb, ◌⊎◌, List, [], ◌∷◌, map, length, get_or, take, ℤ, is_some, Some, None, count_by, Option, sym, refl, ap, ◌∙◌, ap₂, inl, inr, add_assoc, arith}
+use Rattle.std.proofs.Common.{◌≡◌, ℕ, ◌-◌, ◌*◌, ◌<◌, ◌≤◌, true, false, cond, not, ◌&&◌, eqb, leb, List, [], ◌∷◌, map, length, get_or, take, ℤ, is_some, Some, None, count_by, sym, refl, ap, ◌∙◌, ap₂, add_assoc, arith}
 use Rattle.std.proofs.lemmas.List.{length-take-le, length-map}
-use Rattle.questions.specs.Questions.{Refusal, no_at}
+use Rattle.questions.specs.Questions.{no_at}
 use Rattle.questions.proofs.Asked.{ask_yes, ask_no}
 use Rattle.charges.specs.Sums.{total}
 use Rattle.year.specs.Plus.{plus}
 use Rattle.year.specs.Spread.{spread}
-use Rattle.year.specs.Terms.{Terms, count, flagged}
+use Rattle.year.specs.Terms.{flagged}
 use Rattle.year.specs.Rc.{assess, charge_of, minimums, rest, assessment, spreadable, assess_refusal, rc_effect}
 use Rattle.year.specs.Book.{Book, of_rc, refusal, effect}
 use Rattle.year.proofs.Sums.{zero_not_suc, total_plus, length_plus}

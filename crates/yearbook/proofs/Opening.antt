@@ -1,12 +1,12 @@
 -- A book as opened.
-use Rattle.std.proofs.Common.{◌≡◌, ℕ, zero, suc, ◌<◌, ◌≤◌, Bool, true, false, ◌⊎◌, List, [], ◌∷◌, map, length, get_or, take, replicate, ℤ, pos, None, sym, refl, ap, ◌∙◌, ap₂, inl, inr, arith}
+use Rattle.std.proofs.Common.{◌≡◌, ℕ, zero, suc, ◌≤◌, Bool, false, List, ◌∷◌, map, length, get_or, take, replicate, ℤ, pos, None, sym, refl, ap, ◌∙◌, ap₂, inl, inr, arith}
 use Rattle.std.proofs.lemmas.List.{take-replicate, get_or-replicate, get_or_past}
 use Rattle.std.proofs.lemmas.Bool.{cases_lt}
 use Rattle.charges.specs.Sums.{total}
-use Rattle.year.specs.Terms.{Terms, count, open_refusal}
-use Rattle.year.specs.Book.{Book, opened, no_market, no_rc}
+use Rattle.year.specs.Terms.{Terms, open_refusal}
+use Rattle.year.specs.Book.{opened, no_market, no_rc}
 use Rattle.year.proofs.Sums.{total_zeros}
-use Rattle.year.proofs.Passed.{Opens, open_passed}
+use Rattle.year.proofs.Passed.{open_passed}
 use Rattle.yearbook.specs.declared.account.Account.{Account}
 use Rattle.yearbook.specs.Accounts.{empty_account, market_of, rc_of, markets, rcs}
 use Rattle.yearbook.specs.View.{posted_in, view}

@@ -1,22 +1,22 @@
 -- Posting and quoting.
-use Rattle.std.proofs.Common.{◌≡◌, ℕ, zero, suc, ◌+◌, ◌-◌, ◌*◌, ◌<◌, ◌≤◌, Bool, true, false, not, ◌&&◌, ◌||◌, eqb, ltb, leb, ◌≢◌, ◌⊎◌, List, [], ◌∷◌, map, length, get_or, take, set, ℤ, pos, ◌+ℤ◌, nat_abs, Some, None, Option, sym, refl, ap, ◌∙◌, ap₂, inl, inr, arith}
+use Rattle.std.proofs.Common.{◌≡◌, ℕ, ◌+◌, ◌-◌, ◌*◌, ◌<◌, ◌≤◌, Bool, true, false, ◌&&◌, eqb, ltb, leb, List, length, get_or, take, set, ℤ, pos, ◌+ℤ◌, nat_abs, Some, None, Option, sym, refl, ap, ◌∙◌, ap₂, inl, inr, arith}
 use mathlib.Core.Path.{fun_ext}
 use Rattle.std.proofs.lemmas.List.{length-take-le, get_or-set_same, get_or-set_other, get_or-take}
 use Rattle.std.proofs.lemmas.List.FromFn.{length-map-range_with_len, get_or-map-range_with_len}
 use Rattle.std.proofs.lemmas.Bool.{and_parts, leb-true, cases_lt, cases_eq, lt-ltb, le-ltb, lt-leb, le-leb, eq-eqb, ne_eqb, eqb-true}
-use Rattle.questions.specs.Questions.{Refusal, no_at, ask, first, in_turn}
+use Rattle.questions.specs.Questions.{Refusal, no_at, ask, in_turn}
 use Rattle.questions.proofs.Asked.{ask_yes, ask_no, ask_passed, first_none, first_refused, turn_same}
 use Rattle.sheet.specs.Rows.{row_count, row_at, rows}
-use Rattle.sheet.specs.Questions.{sheet_refusal, within}
+use Rattle.sheet.specs.Questions.{sheet_refusal}
 use Rattle.charges.specs.Sums.{total}
-use Rattle.charges.specs.Rules.{Meaning, line_of, lines, quantity_of}
+use Rattle.charges.specs.Rules.{Meaning, line_of, lines}
 use Rattle.year.specs.Plus.{plus_z}
 use Rattle.year.specs.Terms.{count}
-use Rattle.year.specs.Market.{Market, post, market_balance, coordinators_refusal, balance_refusal, lines_refusal, post_refusal, marked, market_effect}
+use Rattle.year.specs.Market.{post, market_balance, coordinators_refusal, balance_refusal, lines_refusal, post_refusal, marked, market_effect}
 use Rattle.year.specs.Rc.{charge_of}
 use Rattle.year.specs.Reading.{quote_refusal}
 use Rattle.year.specs.Book.{Book, Call, of_market, refusal, effect}
-use Rattle.year.proofs.Sums.{length_plus_z, get_or_plus_z, total_le}
+use Rattle.year.proofs.Sums.{get_or_plus_z, total_le}
 use Rattle.year.proofs.Passed.{post_passed}
 use Rattle.yearbook.specs.declared.account.Account.{Account}
 use Rattle.yearbook.specs.declared.book.YearBook.{YearBook}

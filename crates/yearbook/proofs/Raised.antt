@@ -1,12 +1,12 @@
 -- Amounts added to the accounts, one by one.
-use Rattle.std.proofs.Common.{◌≡◌, ℕ, zero, suc, ◌+◌, ◌-◌, ◌^◌, ◌<◌, ◌≤◌, ◌≢◌, ◌⊎◌, List, [], ◌∷◌, map, length, get_or, take, set, ℤ, pos, ◌+ℤ◌, nat_abs, sym, refl, ap, ◌∙◌, ap₂, inl, inr, le_of_suc-le-suc, not-suc-le-zero, add-zero, arith, w64, SFits, to_z, of_z}
+use Rattle.std.proofs.Common.{◌≡◌, ℕ, zero, suc, ◌+◌, ◌^◌, ◌<◌, ◌≤◌, ◌≢◌, List, [], ◌∷◌, length, get_or, set, ℤ, pos, ◌+ℤ◌, nat_abs, sym, refl, ap, ◌∙◌, inl, inr, le_of_suc-le-suc, not-suc-le-zero, add-zero, arith, w64, SFits, to_z, of_z}
 use lib.IntN.{+ℤ_idr}
 use Rattle.std.proofs.lemmas.Int.{ints, to_z-of_z, to_z_pos}
 use Rattle.std.proofs.lemmas.List.{get_or-set_same, get_or-set_other, length-set, ext_get_or, get_or_past}
 use Rattle.std.proofs.lemmas.Bool.{cases_eq, cases_lt}
 use Rattle.year.specs.Plus.{plus, plus_z}
 use Rattle.yearbook.specs.declared.account.Account.{Account}
-use Rattle.yearbook.specs.Accounts.{empty_account, market_of, rc_of, markets, rcs, rc_raised, market_raised, each_with}
+use Rattle.yearbook.specs.Accounts.{empty_account, markets, rcs, rc_raised, market_raised, each_with}
 
 pub rc_raised_zero : (a : Account) → rc_raised a 0 ≡ a
 rc_raised_zero a = ap (λ n. record { market = a.market; rc = n }) (add-zero a.rc)

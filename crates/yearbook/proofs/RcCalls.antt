@@ -1,15 +1,15 @@
 -- RC payments and defaults.
-use Rattle.std.proofs.Common.{◌≡◌, ℕ, ◌-◌, ◌<◌, ◌≤◌, Bool, true, false, ◌&&◌, leb, ◌≢◌, ◌⊎◌, List, length, get_or, take, set, ℤ, pos, Some, None, Ok, Err, sym, refl, ap, ◌∙◌, ap₂, inl, inr, arith}
-use Rattle.std.proofs.lemmas.Bool.{lt-leb, le-leb, lt-ltb, le-ltb, eq-eqb, ne_eqb, and_parts, leb-true, cases_lt}
+use Rattle.std.proofs.Common.{◌≡◌, ℕ, ◌-◌, ◌<◌, ◌≤◌, true, false, ◌&&◌, leb, List, length, get_or, take, set, ℤ, Ok, Err, sym, refl, ap, ◌∙◌, ap₂, inl, inr, arith}
+use Rattle.std.proofs.lemmas.Bool.{lt-leb, le-leb, and_parts, leb-true, cases_lt}
 use Rattle.std.proofs.lemmas.List.{length-set, set_past, get_or-set_same, get_or_past}
-use Rattle.questions.specs.Questions.{Refusal, no_at}
+use Rattle.questions.specs.Questions.{no_at}
 use Rattle.questions.proofs.Asked.{ask_yes, ask_no}
 use Rattle.charges.specs.Sums.{total}
 use Rattle.year.specs.Plus.{plus}
 use Rattle.year.specs.Spread.{spread}
-use Rattle.year.specs.Rc.{Rc, rc_balance, charge_of, pay_rc, default, carrier_weights, spreadable, pay_rc_refusal, default_refusal, passed_on, rc_effect}
+use Rattle.year.specs.Rc.{rc_balance, charge_of, pay_rc, default, carrier_weights, spreadable, pay_rc_refusal, default_refusal, passed_on, rc_effect}
 use Rattle.year.specs.Book.{Book, of_rc}
-use Rattle.year.proofs.Sums.{total_set, get_or_le_total}
+use Rattle.year.proofs.Sums.{total_set}
 use Rattle.year.proofs.Spread.{spread_law, length_spread}
 use Rattle.year.proofs.Passed.{spreadable_cases}
 use Rattle.year.proofs.Rc.{total_passed}

@@ -1,13 +1,12 @@
 -- One account changed, seen from each side.
-use Rattle.std.proofs.Common.{◌≡◌, ℕ, zero, suc, ◌+◌, ◌-◌, ◌*◌, ◌^◌, ◌<◌, ◌≤◌, Bool, true, false, ◌&&◌, ◌≢◌, ◌⊎◌, List, [], ◌∷◌, ◌++◌, map, length, get_or, take, set, ℤ, pos, ◌+ℤ◌, nat_abs, sym, refl, ap, ◌∙◌, ap₂, inl, inr, arith, w64, SFits}
+use Rattle.std.proofs.Common.{◌≡◌, ℕ, zero, suc, ◌+◌, ◌-◌, ◌*◌, ◌<◌, ◌≤◌, true, List, [], ◌∷◌, ◌++◌, map, length, get_or, take, set, ℤ, pos, ◌+ℤ◌, nat_abs, sym, refl, ap, ◌∙◌, inl, inr, arith, w64, SFits}
 use native.Mathlib.Nat.{sub-zero}
-use lib.IntN.{+ℤ_idr, +ℤ_assoc, +ℤ_idl}
 use Rattle.std.proofs.lemmas.List.{length-take-le, get_or-take, get_or-map, map-set, set-get_or, length-map, get_or-set_same, get_or-set_other, set_past, length-set, map_more}
 use Rattle.std.proofs.lemmas.Bool.{cases_eq, cases_lt, leb-true}
 use Rattle.std.proofs.lemmas.Int.{ints}
 use Rattle.charges.specs.Sums.{total, total_z}
 use Rattle.sheet.specs.Questions.{within}
-use Rattle.year.proofs.Sums.{total_set, get_or_le_total, total_take_le}
+use Rattle.year.proofs.Sums.{total_set, get_or_le_total}
 use Rattle.yearbook.specs.declared.account.Account.{Account}
 use Rattle.yearbook.specs.Accounts.{empty_account, market_of, rc_of, markets, rcs, market_moved, rc_paid}
 

@@ -1,8 +1,8 @@
 -- A call that is refused leaves the book; an accepted one has its effect.
-use Rattle.std.proofs.Common.{◌≡◌, Some, None, Ok, Err, Option, Result, sym, refl, ap, ◌∙◌}
+use Rattle.std.proofs.Common.{◌≡◌, Some, None, Ok, Err, Option, Result}
 use Rattle.questions.specs.Questions.{Refusal, answer}
 use Rattle.questions.proofs.Asked.{err_answer}
-use Rattle.year.specs.Book.{Book, Call, refusal, effect, settled, step}
+use Rattle.year.specs.Book.{Book, Call, refusal, effect, settled}
 use Rattle.yearbook.specs.Taken.{Taken}
 
 pub taken_refused : {T : Type 0} (b : Book) (call : Call) (value : T) (r : Refusal) → refusal b call ≡ Some r → Taken b call value b (Err r)

@@ -1,5 +1,5 @@
 -- The model's book, read off the code's.
-use Rattle.std.proofs.Common.{◌≡◌, ℕ, ◌<◌, ◌≤◌, Bool, true, false, ◌&&◌, ltb, ◌⊎◌, List, [], length, get_or, take, replicate, ℤ, pos, Some, None, Option, sym, refl, ap, ◌∙◌, inl, inr, arith}
+use Rattle.std.proofs.Common.{◌≡◌, ℕ, ◌<◌, ◌≤◌, Bool, true, false, ◌&&◌, ltb, List, [], length, get_or, replicate, ℤ, None, Option, refl, ap, inl, inr, arith}
 use mathlib.Core.Path.{fun_ext}
 use Rattle.std.proofs.lemmas.List.{length-take-le, get_or-replicate, get_or_past, length-replicate}
 use Rattle.std.proofs.lemmas.Bool.{lt-ltb, le-ltb, cases_lt}
@@ -9,7 +9,7 @@ use Rattle.year.specs.Rc.{rc_balance}
 use Rattle.year.specs.Book.{Book, no_market, no_rc}
 use Rattle.yearbook.specs.declared.account.Account.{Account}
 use Rattle.yearbook.specs.declared.book.YearBook.{YearBook}
-use Rattle.yearbook.specs.Accounts.{empty_account, markets, rcs}
+use Rattle.yearbook.specs.Accounts.{empty_account}
 use Rattle.yearbook.specs.View.{posted_in, view, book_of, unopened}
 use Rattle.yearbook.proofs.Sides.{rcs_at, markets_at}
 

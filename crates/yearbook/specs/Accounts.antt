@@ -1,5 +1,5 @@
 -- The accounts of the coordinators, and each side of them.
-use Rattle.std.specs.Prelude.{ℕ, ◌+◌, ◌-◌, List, [], ◌∷◌, map, take, replicate, ℤ, pos, ◌+ℤ◌}
+use Rattle.std.specs.Prelude.{ℕ, ◌+◌, ◌-◌, List, [], ◌∷◌, map, take, ℤ, pos, ◌+ℤ◌}
 use Rattle.yearbook.specs.declared.account.Account.{Account}
 
 abbrev pub empty_account : Account

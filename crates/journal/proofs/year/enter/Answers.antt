@@ -1,4 +1,3 @@
-use Rattle.std.proofs.Common.{[], ◌∷◌}
 use Rattle.journal.proofs.Kept.{continued}
 use Rattle.journal.proofs.year.enter.Goals as goal
 

@@ -1,4 +1,3 @@
-use Rattle.std.proofs.Common.{[]}
 use Rattle.year.specs.Terms.{Terms}
 use Rattle.yearbook.specs.View.{book_of}
 use Rattle.journal.proofs.Kept.{kept_by_opening}

@@ -1,8 +1,6 @@
-use Rattle.std.proofs.Common.{◌≡◌, ℕ, ◌+◌, ◌^◌, ◌<◌, ◌≤◌, length, get_or, ℤ, pos, ◌+ℤ◌, nat_abs, sym, refl, ap, ◌∙◌, arith, w64, SFits, to_z, of_z, rules}
-use Rattle.std.proofs.lemmas.Int.{to_z-of_z, to_z_pos}
-use Rattle.yearbook.specs.declared.account.Account.{Account}
+use Rattle.std.proofs.Common.{◌≤◌, get_or, ℤ, nat_abs, ap, arith, w64, SFits, rules}
 use Rattle.yearbook.specs.Accounts.{empty_account, market_of, market_raised}
-use Rattle.yearbook.proofs.Raised.{Raising, raising_start, raising_more, raising_all, market_raised_zero, line_fits, code_sum, code_sum_is}
+use Rattle.yearbook.proofs.Raised.{raising_start, raising_more, raising_all, market_raised_zero, line_fits, code_sum, code_sum_is}
 use Rattle.yearbook.proofs.account.raise_market_sides.Goals as goal
 
 pub loop-i-init : goal.loop-i-init

@@ -1,7 +1,7 @@
-use Rattle.std.proofs.Common.{◌≡◌, ℕ, ◌+◌, ◌<◌, ◌≤◌, length, get_or, sym, refl, ap, ◌∙◌, add-zero, arith, rules}
+use Rattle.std.proofs.Common.{refl, ap, arith, rules}
 use Rattle.year.proofs.Sums.{get_or_le_total}
-use Rattle.yearbook.specs.Accounts.{empty_account, rc_of, rc_raised}
-use Rattle.yearbook.proofs.Raised.{Raising, raising_start, raising_more, raising_all, rc_raised_zero}
+use Rattle.yearbook.specs.Accounts.{rc_of, rc_raised}
+use Rattle.yearbook.proofs.Raised.{raising_start, raising_more, raising_all, rc_raised_zero}
 use Rattle.yearbook.proofs.account.raise_rc_sides.Goals as goal
 
 pub loop-i-init : goal.loop-i-init

@@ -1,5 +1,4 @@
-use Rattle.std.proofs.Common.{◌≡◌, ℕ, ◌<◌, ◌≤◌, length, get_or}
-use Rattle.yearbook.specs.Accounts.{empty_account, rc_raised}
+use Rattle.yearbook.specs.Accounts.{rc_raised}
 use Rattle.yearbook.proofs.Raised.{Raising}
 use Rattle.yearbook.proofs.account.raise_rc_sides.Given as goal
 

@@ -1,4 +1,4 @@
-use Rattle.std.proofs.Common.{◌≡◌, ℕ, ◌<◌, ◌≤◌, true, false, length, get_or, ℤ, pos, ◌+ℤ◌, nat_abs, sym, refl, ap, ◌∙◌, arith, w64, SFits, rules}
+use Rattle.std.proofs.Common.{◌≡◌, length, get_or, ℤ, pos, ◌+ℤ◌, sym, ap, ◌∙◌, arith, w64, SFits, rules}
 use Rattle.questions.specs.Questions.{acceptance, in_turn}
 use Rattle.questions.proofs.Asked.{turn_none, turn_passed, turn_refused}
 use Rattle.sheet.specs.Questions.{within}

@@ -1,8 +1,7 @@
-use Rattle.std.proofs.Common.{◌≡◌, ◌<◌, ◌≤◌, sym, refl, ap, ◌∙◌, arith}
+use Rattle.std.proofs.Common.{◌≡◌, sym, ap, ◌∙◌, arith}
 use Rattle.questions.specs.Questions.{acceptance, in_turn}
 use Rattle.questions.proofs.Asked.{turn_none, turn_passed, turn_refused}
-use Rattle.sheet.specs.Rows.{row_count, row_at}
-use Rattle.year.specs.Market.{coordinators_refusal}
+use Rattle.sheet.specs.Rows.{row_count}
 use Rattle.yearbook.proofs.Posting.{coordinator_question, coordinators_asked, refused_9, passed_9}
 use Rattle.yearbook.proofs.lines.check_coordinators.Goals as goal
 

@@ -1,6 +1,5 @@
-use Rattle.std.proofs.Common.{◌≡◌, eqb, ltb, sym, ap, ◌∙◌, arith, rules}
+use Rattle.std.proofs.Common.{ltb, ap, arith}
 use Rattle.std.proofs.lemmas.Bool.{eq-eqb, ne_eqb}
-use Rattle.charges.specs.Sums.{total}
 use Rattle.year.specs.Rc.{spreadable}
 use Rattle.yearbook.proofs.shares.can_spread.Goals as goal
 

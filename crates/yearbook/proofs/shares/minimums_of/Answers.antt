@@ -1,4 +1,4 @@
-use Rattle.std.proofs.Common.{◌≡◌, ℕ, ◌<◌, cond, eqb, length, get_or, take, sym, ◌∙◌, arith, rules}
+use Rattle.std.proofs.Common.{ℕ, cond, eqb, length, take, sym, ◌∙◌, arith}
 use Rattle.std.proofs.lemmas.List.{ext_get_or, length-map, get_or-map, length-take-le, get_or-take}
 use Rattle.yearbook.proofs.shares.minimums_of.Goals as goal
 

@@ -1,5 +1,5 @@
-use Rattle.std.proofs.Common.{◌≡◌, ℕ, ◌<◌, ◌≤◌, Bool, true, false, ◌&&◌, ◌||◌, eqb, leb, List, length, get_or, Some, None, Option, sym, refl, ap, ◌∙◌, arith}
-use Rattle.questions.specs.Questions.{Refusal, no_at, ask, in_turn, acceptance}
+use Rattle.std.proofs.Common.{◌≡◌, ℕ, Bool, true, false, ◌&&◌, ◌||◌, eqb, leb, length, Some, None, Option, sym, refl, ap, ◌∙◌, arith}
+use Rattle.questions.specs.Questions.{Refusal, no_at, in_turn, acceptance}
 use Rattle.questions.proofs.Asked.{ask_yes, ask_no, turn_passed, turn_refused}
 use Rattle.year.specs.Terms.{Terms, count, demand_at, flag_at, coordinator_refusal, open_refusal}
 use Rattle.yearbook.proofs.terms.check_terms.Goals as goal

@@ -1,7 +1,7 @@
 use Rattle.std.proofs.Common.{sym, ◌∙◌, arith}
 use Rattle.std.proofs.lemmas.List.FromFn.{get_or-map-range_with_len}
 use Rattle.sheet.specs.Rows.{row_at}
-use Rattle.sheet.proofs.Accepted.{measured, few_rows, row_passes}
+use Rattle.sheet.proofs.Accepted.{measured, row_passes}
 use Rattle.sheet.proofs.sheet.Sheet.row.Goals as goal
 
 pub read-requires : goal.read-requires

@@ -1,7 +1,7 @@
-use Rattle.std.proofs.Common.{◌≡◌, ℕ, ◌-◌, ◌*◌, ◌≤◌, List, length, take, sym, refl, ap, ◌∙◌, ap₂, arith, rules}
+use Rattle.std.proofs.Common.{◌≡◌, ℕ, ◌-◌, ◌*◌, List, length, refl, ap, ◌∙◌, ap₂, arith, rules}
 use Rattle.year.specs.Spread.{spread}
 use Rattle.charges.specs.Sums.{total}
-use Rattle.yearbook.proofs.Assessing.{passed, flagged_is, front_flags_long, front_demands_long, minimums_are, assess_left, assess_keeps, assess_room, assess_room₂}
+use Rattle.yearbook.proofs.Assessing.{passed, flagged_is, front_demands_long, minimums_are, assess_left, assess_keeps, assess_room, assess_room₂}
 use Rattle.yearbook.proofs.Sides.{front, front_of}
 use Rattle.yearbook.proofs.book.YearBook.charge_all.Goals as goal
 

@@ -1,4 +1,4 @@
-use Rattle.std.proofs.Common.{◌≡◌, ◌-◌, ◌*◌, ◌≤◌, ◌&&◌, leb, length, take, sym, ap, ◌∙◌, ap₂, arith, rules}
+use Rattle.std.proofs.Common.{◌≡◌, ◌-◌, ◌*◌, ◌&&◌, leb, length, sym, ap, ◌∙◌, ap₂, rules}
 use Rattle.questions.specs.Questions.{acceptance}
 use Rattle.year.specs.Rc.{spreadable}
 use Rattle.yearbook.proofs.Assessing.{flagged_is, assess_15, assess_16, assess_17, assess_none}

@@ -1,9 +1,8 @@
-use Rattle.std.proofs.Common.{◌≡◌, ◌-◌, ◌<◌, ◌≤◌, length, take, set, sym, refl, ap, ◌∙◌, arith, rules}
+use Rattle.std.proofs.Common.{◌≡◌, length, sym, refl, ap, ◌∙◌, arith, rules}
 use Rattle.std.proofs.lemmas.Bool.{and_parts, leb-true}
 use Rattle.charges.specs.Sums.{total}
 use Rattle.year.specs.Rc.{spreadable}
 use Rattle.year.specs.Spread.{spread}
-use Rattle.yearbook.specs.View.{book_of}
 use Rattle.yearbook.proofs.Sides.{front_of}
 use Rattle.yearbook.proofs.RcCalls.{weights_are, weights_light, weights_long, default_12, default_13, default_14, default_17, default_done, default_keeps, default_room}
 use Rattle.yearbook.proofs.book.YearBook.default_on.Goals as goal

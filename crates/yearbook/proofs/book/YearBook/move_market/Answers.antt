@@ -1,4 +1,4 @@
-use Rattle.std.proofs.Common.{◌≡◌, ◌<◌, ◌≤◌, true, false, length, get_or, ℤ, ◌+ℤ◌, sym, refl, ap, ◌∙◌, arith, w64, SFits, rules}
+use Rattle.std.proofs.Common.{◌≡◌, true, false, length, get_or, ℤ, ◌+ℤ◌, sym, refl, ap, arith, w64, SFits, rules}
 use Rattle.std.proofs.lemmas.Int.{to_z-of_z}
 use Rattle.questions.specs.Questions.{acceptance}
 use Rattle.sheet.specs.Questions.{within}

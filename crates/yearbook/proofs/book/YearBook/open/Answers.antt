@@ -1,12 +1,9 @@
-use Rattle.std.proofs.Common.{◌≡◌, ℕ, ◌≤◌, length, take, None, sym, refl, ap, ◌∙◌, arith, rules}
+use Rattle.std.proofs.Common.{length, refl, ap, arith}
 use Rattle.std.proofs.lemmas.Result.{err_from_is_err_and}
-use Rattle.questions.specs.Questions.{acceptance}
-use Rattle.questions.proofs.Asked.{ok_answer, err_answer}
+use Rattle.questions.proofs.Asked.{ok_answer}
 use Rattle.charges.specs.Sums.{total}
-use Rattle.year.specs.Book.{opened, settled}
-use Rattle.year.specs.Terms.{Terms, open_refusal}
+use Rattle.year.specs.Terms.{Terms}
 use Rattle.year.proofs.Passed.{open_passed}
-use Rattle.yearbook.specs.View.{book_of}
 use Rattle.yearbook.proofs.Opening.{opened_is, fresh_keeps}
 use Rattle.yearbook.proofs.Taken.{refused_leaves, accepted_leaves}
 use Rattle.yearbook.proofs.book.YearBook.open.Goals as goal

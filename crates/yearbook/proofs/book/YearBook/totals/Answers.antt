@@ -1,7 +1,6 @@
-use Rattle.std.proofs.Common.{◌≡◌, ℕ, ◌+◌, ◌*◌, ◌<◌, ◌≤◌, length, get_or, ℤ, ◌+ℤ◌, nat_abs, sym, refl, ap, ◌∙◌, ap₂, arith, w64, SFits, rules}
+use Rattle.std.proofs.Common.{◌+◌, ◌*◌, ◌≤◌, get_or, ℤ, ◌+ℤ◌, nat_abs, sym, ap, ◌∙◌, arith, w64, SFits, rules}
 use Rattle.std.proofs.lemmas.Int.{to_z-of_z}
-use Rattle.charges.specs.Sums.{total, total_z}
-use Rattle.yearbook.specs.Accounts.{empty_account, rcs, markets}
+use Rattle.yearbook.specs.Accounts.{empty_account}
 use Rattle.yearbook.proofs.Sides.{within_out, markets_more, rcs_more, rcs_front, sum_small, sum_small_fits}
 use Rattle.yearbook.proofs.book.YearBook.totals.Goals as goal
 

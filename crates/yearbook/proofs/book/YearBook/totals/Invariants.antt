@@ -1,4 +1,4 @@
-use Rattle.std.proofs.Common.{◌≡◌, ℕ, ◌*◌, ◌≤◌, nat_abs}
+use Rattle.std.proofs.Common.{◌≡◌, ◌*◌, ◌≤◌, nat_abs}
 use Rattle.charges.specs.Sums.{total, total_z}
 use Rattle.yearbook.specs.Accounts.{markets, rcs}
 use Rattle.yearbook.proofs.book.YearBook.totals.Given as goal
