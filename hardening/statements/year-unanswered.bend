@@ -1,7 +1,7 @@
 # keep_year, answered: dropped
 crates: journal
 edit: crates/journal/must-fail/answers-not-written.edit
-file: crates/journal/src/year.rt
+file: crates/journal/src/kept_year.rt
 old: ⌜ map (told book-fault) (now (answers .exit)) ≡ written (map (told book-fault) (now (answers .entry))) (year-answers (open-refusal (terms-of (now (demands .entry)) (now (flags .entry)))) (terms-of (now (demands .entry)) (now (flags .entry))) (map (call-of code quantity) (now (entries .entry)))) ⌝
 new: ⌜ Unit {0} ⌝
 file: crates/journal/proofs/year/keep_year/Answers.antt

@@ -1,7 +1,7 @@
 # keep_year, law: dropped
 crates: journal
 edit: hardening/journal/year-forgotten.edit
-file: crates/journal/src/year.rt
+file: crates/journal/src/kept_year.rt
 old: ⌜ Kept (open-refusal (terms-of (now (demands .entry)) (now (flags .entry)))) (terms-of (now (demands .entry)) (now (flags .entry))) (map (call-of code quantity) (now (entries .entry))) (book-of (now (book .entry))) (book-of (now (book .exit))) ⌝
 new: ⌜ Unit {0} ⌝
 file: crates/journal/proofs/year/keep_year/Answers.antt

@@ -1,6 +1,6 @@
 -- One row more of a walk, and what the figures of a pair on an accepted sheet come to.
 use Rattle.std.proofs.Common.{◌≡◌, ℕ, ◌+◌, ◌*◌, ◌<◌, ◌≤◌, Bool, true, false, cond, List, [], ◌∷◌, ◌++◌, length, get_or, take, sym, refl, ap, ◌∙◌, subst, append-nil, arith}
-use Rattle.std.specs.List.{AllByRecursion as All}
+use Rattle.std.specs.List.{AllByRecursion}
 use Rattle.std.proofs.lemmas.List.{take_all, length-take-le}
 use Rattle.std.proofs.lemmas.List.Elements.{filter_more}
 use Rattle.std.proofs.ByRecursion.{all_kept_by, All-take}
@@ -15,7 +15,7 @@ use Rattle.charges.specs.declared.walk.Walk.{Walk}
 use Rattle.charges.specs.Reached.{FiguresBounded, reached_low}
 
 -- the pair's rows keep what all rows keep
-pub all_pair : (P : Row → Type 0) (coordinator resource : ℕ) (rs : List Row) → All P rs → All P (pair_rows coordinator resource rs)
+pub all_pair : (P : Row → Type 0) (coordinator resource : ℕ) (rs : List Row) → AllByRecursion P rs → AllByRecursion P (pair_rows coordinator resource rs)
 all_pair P coordinator resource rs h = all_kept_by _ P (own_rows coordinator rs) (all_kept_by _ P rs h)
 
 module _ (bytes : List ℕ) (ok : Accepted bytes) {S : Type 0} (f : Running S) (coordinator resource : ℕ) where

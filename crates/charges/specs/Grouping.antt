@@ -1,7 +1,7 @@
 -- Rows that rise by a field: figures taken group by group come to the sum over all groups.
 use Rattle.std.specs.Prelude.{◌≡◌, ℕ, ◌+◌, ◌<◌, ◌≤◌, Bool, true, false, cond, List, [], ◌∷◌, fold, ◌==◌, ◌≢◌, refl}
 use Rattle.std.proofs.Common.{arith, ap, ap₂, sym, ◌∙◌, inl, inr}
-use Rattle.std.specs.List.{range_with_len, AllByRecursion as All}
+use Rattle.std.specs.List.{range_with_len, AllByRecursion}
 use Rattle.std.proofs.ByRecursion.{All-weaker}
 use Rattle.std.proofs.lemmas.Bool.{cases_eq, eq-eqb, ne_eqb}
 use Rattle.sheet.specs.declared.row.Row.{Row}
@@ -11,7 +11,7 @@ use Rattle.charges.specs.Running.{Running, run, grouped}
 use Rattle.charges.specs.Order.{Pairwise}
 use Rattle.charges.specs.SumsLemmas.{over_change, over_none, over_same_from}
 
-at_none : (field : Row → ℕ) (g : ℕ) (rs : List Row) → All (λ r. g < field r) rs → at field g rs ≡ []
+at_none : (field : Row → ℕ) (g : ℕ) (rs : List Row) → AllByRecursion (λ r. g < field r) rs → at field g rs ≡ []
 at_none field g [] h = refl
 at_none field g (r ∷ rs) h = let l = h.0 in rw (ne_eqb (field r) g (λ e. omega arith)) (at_none field g rs h.1)
 
@@ -51,12 +51,12 @@ module _ {S : Type 0} (K : Type 0) (f : Running S) (nothing : f.total f.start �
         | inr y ↦ ap₂ (asked s r l) (ne_eqb g c z) (ne_eqb (field r) g (λ x. y (sym x))) ∙ sym (ap (opened (f.add f.start r) l) (ne_eqb g (field r) y))
       ]
 
-  ahead_left : (c : ℕ) (s : S) (r : Row) (rs : List Row) → c < field r → All (λ b. field r ≤ field b) rs → ahead c s (r ∷ rs) c ≡ f.total s
+  ahead_left : (c : ℕ) (s : S) (r : Row) (rs : List Row) → c < field r → AllByRecursion (λ b. field r ≤ field b) rs → ahead c s (r ∷ rs) c ≡ f.total s
   ahead_left c s r rs l up =
       ap₂ (asked s r (at field c rs)) (eq-eqb c c refl) (ne_eqb (field r) c (λ e. omega arith))
       ∙ ap (λ x. f.total (fold f.add s x)) (at_none field c rs (All-weaker _ _ (λ b w. omega arith) rs up))
 
-  ahead_gone : (c k : ℕ) (s : S) (rs : List Row) → c < k → All (λ b. k ≤ field b) rs → ahead k s rs c ≡ 0
+  ahead_gone : (c k : ℕ) (s : S) (rs : List Row) → c < k → AllByRecursion (λ b. k ≤ field b) rs → ahead k s rs c ≡ 0
   ahead_gone c k s rs l up =
       ap (opened s (at field c rs)) (ne_eqb c k (λ e. omega arith))
       ∙ ap (λ x. f.total (fold f.add f.start x)) (at_none field c rs (All-weaker _ _ (λ b w. omega arith) rs up)) ∙ nothing
@@ -65,7 +65,7 @@ module _ {S : Type 0} (K : Type 0) (f : Running S) (nothing : f.total f.start �
   abbrev taken : ℕ → ℕ → S → Row → List Row → Bool → ℕ
   taken d c s r rs b = (grouped {K = K} field least f).total (fold (grouped {K = K} field least f).add (cond b (record { closed = d; current = c; inside = f.add s r; field = record {} }) (record { closed = d + f.total s; current = field r; inside = f.add f.start r; field = record {} })) rs)
 
-  grouping_from : (rs : List Row) (d c : ℕ) (s : S) → least ≤ c → c < least + n → All (λ r. c ≤ field r) rs → All (λ r. field r < least + n) rs → Pairwise (λ a b. field a ≤ field b) rs →
+  grouping_from : (rs : List Row) (d c : ℕ) (s : S) → least ≤ c → c < least + n → AllByRecursion (λ r. c ≤ field r) rs → AllByRecursion (λ r. field r < least + n) rs → Pairwise (λ a b. field a ≤ field b) rs →
       (grouped {K = K} field least f).total (fold (grouped {K = K} field least f).add (record { closed = d; current = c; inside = s; field = record {} }) rs) ≡ d + over (range_with_len least n) (ahead c s rs)
   grouping_from [] d c s low high ge lt up =
       omega (arith, over_change (ahead c s []) (λ g. 0) c least n low high (ahead_none c s), over_none (λ (g : ℕ). 0) (λ g. refl) (range_with_len least n), ahead_at c s)
@@ -89,7 +89,7 @@ module _ {S : Type 0} (K : Type 0) (f : Running S) (nothing : f.total f.start �
   cond_same false s = refl
 
   -- on rows that rise, what the groups come to one after another is the sum over all groups
-  pub grouping : (q : List Row → ℕ) (rs : List Row) → All (λ r. least ≤ field r) rs → All (λ r. field r < least + n) rs → Pairwise (λ a b. field a ≤ field b) rs → 0 < n →
+  pub grouping : (q : List Row → ℕ) (rs : List Row) → AllByRecursion (λ r. least ≤ field r) rs → AllByRecursion (λ r. field r < least + n) rs → Pairwise (λ a b. field a ≤ field b) rs → 0 < n →
       ((g : ℕ) → run f (at field g rs) ≡ q (at field g rs)) → run (grouped {K = K} field least f) rs ≡ over (range_with_len least n) (λ g. q (at field g rs))
   grouping q rs ge lt up some e =
       let a = grouping_from rs 0 least f.start (omega arith) (omega arith) ge lt up in

@@ -1,6 +1,6 @@
 -- What is promised of the five charges: the running figures arrive at them, and they are bounded.
 use Rattle.std.specs.Prelude.{◌≡◌, ℕ, ◌*◌, ◌≤◌, cond, List, ◌==◌}
-use Rattle.std.specs.List.{AllByRecursion as All}
+use Rattle.std.specs.List.{AllByRecursion}
 use Rattle.sheet.specs.declared.row.Row.{Row}
 use Rattle.sheet.specs.Sheets.{PairRows}
 use Rattle.charges.specs.Rules.{Bounded}
@@ -14,7 +14,7 @@ PartIsByte r = r.key.part ≤ 255
 -- on the rows of any pair the running figures come to the charge
 pub record FiguresArrive : Type 0 where
   pub at_market_services : (coordinator resource : ℕ) (rs : List Row) → PairRows coordinator resource rs → 100 * run market_figures rs ≡ market_services coordinator resource rs
-  pub at_system_operations : (coordinator resource : ℕ) (rs : List Row) → PairRows coordinator resource rs → All PartIsByte rs → 100 * run system_figures rs ≡ system_operations coordinator resource rs
+  pub at_system_operations : (coordinator resource : ℕ) (rs : List Row) → PairRows coordinator resource rs → AllByRecursion PartIsByte rs → 100 * run system_figures rs ≡ system_operations coordinator resource rs
   pub at_bid_segment : (coordinator resource : ℕ) (rs : List Row) → PairRows coordinator resource rs → 100000 * run segment_figures rs ≡ bid_segment coordinator resource rs
   pub at_tor : (coordinator resource : ℕ) (rs : List Row) → cond (resource == 0) (100 * run tor_figures rs) 0 ≡ tor coordinator resource rs
   pub at_trade_fee : (coordinator resource : ℕ) (rs : List Row) → 100000 * run trade_figures rs ≡ trade_fee coordinator resource rs

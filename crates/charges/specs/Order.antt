@@ -1,7 +1,7 @@
 -- How the rows of a pair are ordered, and the rows at one value of a field.
 use Rattle.std.specs.Prelude.{◌≡◌, ℕ, ◌≤◌, Bool, true, List, [], ◌∷◌, filter, nat_eq}
 use Rattle.std.proofs.Common.{arith, sym, ◌∙◌, inl, inr}
-use Rattle.std.specs.List.{AllByRecursion as All}
+use Rattle.std.specs.List.{AllByRecursion}
 use Rattle.std.proofs.ByRecursion.{All-weaker, all_kept_by, kept_by_passes}
 use Rattle.std.proofs.lemmas.Bool.{cases_Bool, eqb-true}
 use Rattle.sheet.specs.declared.row.Row.{Row}
@@ -20,17 +20,17 @@ below_next x y xs ys s h = elim (below_cases x y xs ys h) [ inl e ↦ absurd (om
 -- each row stands in the relation to every later one
 abbrev pub Pairwise : (Row → Row → Type 0) → List Row → Type 0
 Pairwise R [] = Unit {0}
-Pairwise R (r ∷ rs) = All (R r) rs × Pairwise R rs
+Pairwise R (r ∷ rs) = AllByRecursion (R r) rs × Pairwise R rs
 
 ascending_pairwise : (rs : List Row) → Ascending rs → Pairwise (λ a b. below (key_bytes a.key) (key_bytes b.key) ≡ true) rs
 ascending_pairwise [] h = tt
 ascending_pairwise (r ∷ rs) h = (h.0, ascending_pairwise rs h.1)
 
-pairwise_with : (P : Row → Type 0) (R Q : Row → Row → Type 0) → ((a b : Row) → P a → P b → R a b → Q a b) → (rs : List Row) → All P rs → Pairwise R rs → Pairwise Q rs
+pairwise_with : (P : Row → Type 0) (R Q : Row → Row → Type 0) → ((a b : Row) → P a → P b → R a b → Q a b) → (rs : List Row) → AllByRecursion P rs → Pairwise R rs → Pairwise Q rs
 pairwise_with P R Q w [] h p = tt
 pairwise_with P R Q w (r ∷ rs) h p = (both rs h.1 p.0, pairwise_with P R Q w rs h.1 p.1)
   where
-    both : (bs : List Row) → All P bs → All (R r) bs → All (Q r) bs
+    both : (bs : List Row) → AllByRecursion P bs → AllByRecursion (R r) bs → AllByRecursion (Q r) bs
     both [] k m = tt
     both (b ∷ bs) k m = (w r b h.0 k.0 m.0, both bs k.1 m.1)
 
@@ -41,13 +41,13 @@ pairwise_kept R p (r ∷ rs) h = elim (cases_Bool (p r)) [
   | inr e ↦ rw e (pairwise_kept R p rs h.1)
 ]
 
-at_field : (field : Row → ℕ) (value : ℕ) (rs : List Row) → All (λ r. field r ≡ value) (at field value rs)
+at_field : (field : Row → ℕ) (value : ℕ) (rs : List Row) → AllByRecursion (λ r. field r ≡ value) (at field value rs)
 at_field field value rs = All-weaker _ _ (λ r e. eqb-true (field r) value e) (at field value rs) (kept_by_passes (λ r. nat_eq (field r) value) rs)
 
 -- rows with a property, which ascend by what is left of the key
 pub record InOrder (P : Row → Type 0) (left : Row → List ℕ) (rs : List Row) : Type 0 where
   pub order : Pairwise (λ a b. below (left a) (left b) ≡ true) rs
-  pub each : All P rs
+  pub each : AllByRecursion P rs
 
 module _ {P : Row → Type 0} (field : Row → ℕ) (left : Row → List ℕ) where
   pub rising : (rs : List Row) → InOrder P (λ r. field r ∷ left r) rs → Pairwise (λ a b. field a ≤ field b) rs
@@ -75,9 +75,9 @@ module _ (coordinator resource : ℕ) (rs : List Row) (h : PairRows coordinator 
   }
 
   -- the same with parts that are bytes
-  pub parts_in_order : All PartIsByte rs → InOrder (λ r. OfPair coordinator resource r × PartIsByte r) from_hour rs
+  pub parts_in_order : AllByRecursion PartIsByte rs → InOrder (λ r. OfPair coordinator resource r × PartIsByte r) from_hour rs
   parts_in_order bytes = record { order = pair_in_order.order; each = both rs h.each bytes }
     where
-      both : (l : List Row) → All (OfPair coordinator resource) l → All PartIsByte l → All (λ r. OfPair coordinator resource r × PartIsByte r) l
+      both : (l : List Row) → AllByRecursion (OfPair coordinator resource) l → AllByRecursion PartIsByte l → AllByRecursion (λ r. OfPair coordinator resource r × PartIsByte r) l
       both [] p q = tt
       both (r ∷ l) p q = ((p.0, q.0), both l p.1 q.1)

@@ -1,6 +1,6 @@
 -- Running figures over rows: where they start, one row more, what they come to. Those of each charge.
 use Rattle.std.specs.Prelude.{◌≡◌, ℕ, ◌+◌, ◌-◌, ◌≤◌, min, Bool, cond, List, length, take, ℤ, pos, ◌+ℤ◌, ◌-ℤ◌, fold, ◌==◌, unsigned_abs}
-use Rattle.std.specs.List.{AllByRecursion as All}
+use Rattle.std.specs.List.{AllByRecursion}
 use Rattle.sheet.specs.declared.row.Row.{Row}
 use Rattle.sheet.specs.Rows.{pair_rows}
 use Rattle.sheet.specs.Sheets.{Passes}
@@ -36,7 +36,7 @@ run f rs = f.total (after f rs)
 pub record Reached {S : Type 0} (f : Running S) (n : ℕ) (s : S) : Type 0 where
   pub seen : List Row
   pub few : length seen ≤ n
-  pub pass : All Passes seen
+  pub pass : AllByRecursion Passes seen
   pub is : s ≡ after f seen
 
 -- the walk of a pair after the first n rows of a sheet: its figures are those of the pair's rows among them

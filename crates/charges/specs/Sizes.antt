@@ -2,7 +2,7 @@
 use Rattle.std.specs.Prelude.{ℕ, ◌+◌, ◌*◌, ◌≤◌, Bool, true, false, cond, List, [], ◌∷◌, length, ℤ, ◌+ℤ◌, ◌-ℤ◌, filter, unsigned_abs}
 use Rattle.std.proofs.Common.{arith}
 use borrow.Author.Differences.{abs_is}
-use Rattle.std.specs.List.{range_with_len, AllByRecursion as All}
+use Rattle.std.specs.List.{range_with_len, AllByRecursion}
 use Rattle.std.proofs.ByRecursion.{All-weaker}
 use Rattle.std.proofs.lemmas.Int.{ints}
 use Rattle.sheet.specs.declared.row.Row.{Row}
@@ -46,7 +46,7 @@ count_under p rs = omega (arith, over_ones (filter p rs), over_kept p ones rs)
 
 -- ---- rows that pass
 
-pub sizes_low : (rs : List Row) → All Passes rs → over rs size ≤ 4000000 * length rs
+pub sizes_low : (rs : List Row) → AllByRecursion Passes rs → over rs size ≤ 4000000 * length rs
 sizes_low rs h = over_most size 4000000 rs (All-weaker Passes (λ r. size r ≤ 4000000) quantity_range rs h)
 
 pub pair_sizes_low : (coordinator resource : ℕ) (rs : List Row) → PairRows coordinator resource rs → over rs size ≤ 4000000 * length rs
@@ -56,10 +56,10 @@ pub passing_le : (b : Bool) (m : ℕ) → cond b m 0 ≤ m
 passing_le true m = omega arith
 passing_le false m = omega arith
 
-pub net_low : (p : Row → Bool) (rs : List Row) → All Passes rs → unsigned_abs (net p rs) ≤ 4000000 * length rs
+pub net_low : (p : Row → Bool) (rs : List Row) → AllByRecursion Passes rs → unsigned_abs (net p rs) ≤ 4000000 * length rs
 net_low p rs h = omega (arith, net_under p rs, over_le (passing p size) size (λ r. passing_le (p r) (size r)) rs, sizes_low rs h)
 
-pub gross_low : (p : Row → Bool) (rs : List Row) → All Passes rs → gross p rs ≤ 4000000 * length rs
+pub gross_low : (p : Row → Bool) (rs : List Row) → AllByRecursion Passes rs → gross p rs ≤ 4000000 * length rs
 gross_low p rs h = omega (arith, gross_under p rs, over_le (passing p size) size (λ r. passing_le (p r) (size r)) rs, sizes_low rs h)
 
 pub count_low : (p : Row → Bool) (rs : List Row) → count p rs ≤ length rs

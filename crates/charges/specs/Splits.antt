@@ -1,7 +1,7 @@
 -- How far figures by groups have come: what is closed, and the rows of the group at hand.
 use Rattle.std.specs.Prelude.{◌≡◌, ℕ, ◌+◌, ◌*◌, ◌≤◌, Bool, true, false, cond, List, [], ◌∷◌, ◌++◌, length, fold, ◌==◌, refl}
 use Rattle.std.proofs.Common.{arith, mul-add, mul-le-mul_left, ap, sym, subst, ◌∙◌}
-use Rattle.std.specs.List.{AllByRecursion as All}
+use Rattle.std.specs.List.{AllByRecursion}
 use Rattle.std.proofs.lemmas.List.{length_push}
 use Rattle.std.proofs.ByRecursion.{All-push}
 use Rattle.std.proofs.lemmas.List.Sums.{fold_push}
@@ -17,7 +17,7 @@ record Split {S K : Type 0} (f : Running S) (most : ℕ) (g : Group S K) (n : �
   pub here : List Row
   pub low : g.closed ≤ most * before
   pub inside_is : g.inside ≡ fold f.add f.start here
-  pub pass : All Passes here
+  pub pass : AllByRecursion Passes here
   pub few : before + length here ≤ n
 
 module _ {S : Type 0} (K : Type 0) (f : Running S) (most : ℕ) (bounded : FiguresBounded f most) (field : Row → ℕ) (least : ℕ) where
@@ -55,7 +55,7 @@ module _ {S : Type 0} (K : Type 0) (f : Running S) (most : ℕ) (bounded : Figur
         few = let k = s.few in omega arith;
       }
 
-  split_folded : (seen : List Row) (g : Group S K) (n : ℕ) → All Passes seen → Split f most g n → Split f most (fold (grouped {K = K} field least f).add g seen) (n + length seen)
+  split_folded : (seen : List Row) (g : Group S K) (n : ℕ) → AllByRecursion Passes seen → Split f most g n → Split f most (fold (grouped {K = K} field least f).add g seen) (n + length seen)
   split_folded [] g n h s = record { before = s.before; here = s.here; low = s.low; inside_is = s.inside_is; pass = s.pass; few = let k = s.few in omega arith }
   split_folded (r ∷ seen) g n h s =
       let t = split_folded seen ((grouped {K = K} field least f).add g r) (n + 1) h.1 (split_add g n r h.0 s) in

@@ -1,7 +1,7 @@
 -- Sums over lists, over numbers in turn, and over the groups of rows.
 use Rattle.std.specs.Prelude.{◌≡◌, ℕ, zero, suc, ◌+◌, ◌*◌, ◌<◌, ◌≤◌, Bool, true, false, cond, List, [], ◌∷◌, length, filter, ◌==◌, ◌≢◌, refl}
 use Rattle.std.proofs.Common.{arith, mul-add, ap, inl, inr}
-use Rattle.std.specs.List.{range_with_len, AllByRecursion as All}
+use Rattle.std.specs.List.{range_with_len, AllByRecursion}
 use Rattle.std.proofs.lemmas.Bool.{cases_eq, ne_eqb, eq-eqb}
 use Rattle.sheet.specs.declared.row.Row.{Row}
 use Rattle.charges.specs.Sums.{over}
@@ -19,7 +19,7 @@ pub over_times : {X : Type 0} (u : X → ℕ) (m : ℕ) (xs : List X) → over x
 over_times u m [] = omega arith
 over_times u m (x ∷ xs) = omega (arith, over_times u m xs, mul-add m (u x) (over xs u))
 
-pub over_most : (u : Row → ℕ) (m : ℕ) (rs : List Row) → All (λ r. u r ≤ m) rs → over rs u ≤ m * length rs
+pub over_most : (u : Row → ℕ) (m : ℕ) (rs : List Row) → AllByRecursion (λ r. u r ≤ m) rs → over rs u ≤ m * length rs
 over_most u m [] h = omega arith
 over_most u m (r ∷ rs) h = let a = h.0 in let b = over_most u m rs h.1 in omega arith
 

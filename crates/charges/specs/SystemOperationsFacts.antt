@@ -2,7 +2,7 @@
 use Rattle.std.specs.Prelude.{◌≡◌, ℕ, ◌+◌, ◌*◌, ◌≤◌, cond, List, [], ◌∷◌, length, ◌+ℤ◌, ◌-ℤ◌, fold, FitsSigned, ◌==◌, unsigned_abs, refl}
 use Rattle.std.proofs.Common.{arith, ap, ap₂, sym, ◌∙◌, to_z, of_z}
 use Rattle.std.specs.Int.{w64}
-use Rattle.std.specs.List.{AllByRecursion as All}
+use Rattle.std.specs.List.{AllByRecursion}
 use Rattle.sheet.specs.declared.row.Row.{Row}
 use Rattle.sheet.specs.Sheets.{OfPair, PairRows, Passes}
 use Rattle.charges.specs.declared.system_operations.Meter.{Meter}
@@ -64,7 +64,7 @@ module _ (a : Meter) (r : Row) (h : Reached meter_figures 2047 a) (k : Passes r)
 
 -- ---- the charge
 
-pub system_arrives : (coordinator resource : ℕ) (rs : List Row) → PairRows coordinator resource rs → All PartIsByte rs → 100 * run system_figures rs ≡ system_operations coordinator resource rs
+pub system_arrives : (coordinator resource : ℕ) (rs : List Row) → PairRows coordinator resource rs → AllByRecursion PartIsByte rs → 100 * run system_figures rs ≡ system_operations coordinator resource rs
 unfolding system_operations
 system_arrives coordinator resource rs p b =
     let P : Row → Type 0 = λ r. OfPair coordinator resource r × PartIsByte r in

@@ -3,7 +3,7 @@ ghost use Rattle.std.specs.Prelude.{◌≡◌, ℕ, ◌*◌, ◌≤◌, List, le
 ghost use Rattle.charges.specs.Running.{Reached, Running, run};
 ghost use Rattle.sheet.specs.Sheets.{Passes};
 ghost use Rattle.sheet.specs.declared.row.Row.{Row};
-ghost use Rattle.std.specs.List.{AllByRecursion as All};
+ghost use Rattle.std.specs.List.{AllByRecursion};
 
 use sheet::row::Row;
 
@@ -27,5 +27,5 @@ pub trait Figures: Sized {
 
     ghost low: { most ≤ 100000000 };
 
-    ghost bounded: { (rs : List Row) → All Passes rs → run running rs ≤ most * length rs };
+    ghost bounded: { (rs : List Row) → AllByRecursion Passes rs → run running rs ≤ most * length rs };
 }

@@ -5,7 +5,7 @@ ghost use Rattle.charges.specs.Running.{after, run, walk_at};
 ghost use Rattle.sheet.specs.Rows.{pair_rows, row_at, row_count};
 ghost use Rattle.sheet.specs.Sheets.{sheet_rows};
 ghost use Rattle.sheet.specs.declared.row.Row.{Row};
-ghost use Rattle.std.specs.List.{AllByRecursion as All};
+ghost use Rattle.std.specs.List.{AllByRecursion};
 
 use crate::figures::Figures;
 use sheet::sheet::Sheet;
@@ -51,7 +51,7 @@ impl<F: Figures> Walk<F> {
 // The walk over a whole sheet: its figures are those of the pair's rows, in order.
 pub fn walk_over<F: Figures + Drop>(sheet: Sheet<'_>, coordinator: usize, resource: u8) -> Walk<F>
     ensures figures { result.figures ≡ after F.Figures.running (pair_rows coordinator resource (sheet_rows sheet.entry)) }
-    ensures parts { All PartIsByte (sheet_rows sheet.entry) }
+    ensures parts { AllByRecursion PartIsByte (sheet_rows sheet.entry) }
 {
     let mut walk: Walk<F> = Walk::new(coordinator, resource);
     for _i in 0..sheet.len() {
@@ -63,7 +63,7 @@ pub fn walk_over<F: Figures + Drop>(sheet: Sheet<'_>, coordinator: usize, resour
 // What the figures of the pair's rows come to.
 pub fn total_of<F: Figures + Drop>(sheet: Sheet<'_>, coordinator: usize, resource: u8) -> u64
     ensures value { result ≡ run F.Figures.running (pair_rows coordinator resource (sheet_rows sheet.entry)) }
-    ensures parts { All PartIsByte (sheet_rows sheet.entry) }
+    ensures parts { AllByRecursion PartIsByte (sheet_rows sheet.entry) }
 {
     let walk: Walk<F> = walk_over(sheet, coordinator, resource);
     walk.figures.total()

@@ -5,7 +5,7 @@ use crate::verdict::verdict;
 use crate::years::table::EXAMPLES;
 use charges::trade_fee::TradeFee;
 use journal::entry::{Answer, Entry};
-use journal::year::keep_year;
+use journal::kept_year::keep_year;
 use std::alloc::Global;
 use yearbook::book::YearBook;
 use yearbook::fault::BookFault;

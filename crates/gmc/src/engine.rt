@@ -13,7 +13,7 @@ use concessions::posted::{
     PostedMarketServices, PostedSystemOperations, posted_market_services, posted_system_operations,
 };
 use journal::entry::Entry;
-use journal::year::{enter, open_year};
+use journal::kept_year::{enter, open_year};
 use sheet::check::check;
 use yearbook::book::YearBook;
 use yearbook::fault::BookFault;

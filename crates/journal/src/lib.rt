@@ -3,4 +3,4 @@
 
 pub mod entry;
 pub mod kept_book;
-pub mod year;
+pub mod kept_year;

@@ -1,6 +1,6 @@
 -- The rows of an accepted sheet, and a pair's among them.
 use Rattle.std.proofs.Common.{◌≡◌, ℕ, suc, ◌+◌, ◌<◌, ◌≤◌, Bool, true, false, cond, ◌&&◌, eqb, ltb, ◌⊎◌, List, [], ◌∷◌, length, get_or, pos, nat_abs, filter, sym, refl, ap, ◌∙◌, subst, subst₂, inl, inr, zero-add, add-one, arith}
-use Rattle.std.specs.List.{AllByRecursion as All}
+use Rattle.std.specs.List.{AllByRecursion}
 use Rattle.std.proofs.lemmas.List.FromFn.{length-map-range_with_len, get_or-map-range_with_len}
 use Rattle.std.proofs.ByRecursion.{All-from_get_or, all_kept_by, kept_by_passes}
 use Rattle.std.proofs.lemmas.List.Sums.{length-filter, count_by-le-length}
@@ -24,7 +24,7 @@ row_by_place bytes i d h = get_or-map-range_with_len (row_at bytes) 0 (row_count
 abbrev pub no_row : Row
 no_row = record { key = record { coordinator = 0; resource = 0; hour = 0; interval = 0; part = 0; kind = 0 }; quantity = pos 0 }
 
-pub all_rows : (bytes : List ℕ) (P : Row → Type 0) → ((i : ℕ) → i < row_count bytes → P (row_at bytes i)) → All P (rows bytes)
+pub all_rows : (bytes : List ℕ) (P : Row → Type 0) → ((i : ℕ) → i < row_count bytes → P (row_at bytes i)) → AllByRecursion P (rows bytes)
 all_rows bytes P h =
     All-from_get_or P (rows bytes) no_row
     (λ i l. let w : i < row_count bytes = omega (arith, length_rows bytes) in subst P (sym (row_by_place bytes i no_row w)) (h i w))
@@ -85,7 +85,7 @@ Next [] = Unit {0}
 Next (r ∷ []) = Unit {0}
 Next (r ∷ s ∷ rs) = Below r s × Next (s ∷ rs)
 
-below_all : (r s : Row) (rs : List Row) → Below r s → All (Below s) rs → All (Below r) rs
+below_all : (r s : Row) (rs : List Row) → Below r s → AllByRecursion (Below s) rs → AllByRecursion (Below r) rs
 below_all r s [] h k = tt
 below_all r s (t ∷ rs) h k = (below_trans (key_bytes r.key) (key_bytes s.key) (key_bytes t.key) h k.0, below_all r s rs h k.1)
 
@@ -118,7 +118,7 @@ pair_kept coordinator resource (r ∷ rs) = go (eqb r.key.coordinator coordinato
     go false b' e = e
 
 module _ (bytes : List ℕ) (ok : Accepted bytes) where
-  pub rows_pass : All Passes (rows bytes)
+  pub rows_pass : AllByRecursion Passes (rows bytes)
   rows_pass = all_rows bytes Passes (row_passes bytes ok)
 
   pub rows_ascend : Ascending (rows bytes)
@@ -133,11 +133,11 @@ module _ (bytes : List ℕ) (ok : Accepted bytes) where
   pub pair_accepted : (coordinator resource : ℕ) → PairRows coordinator resource (pair_rows coordinator resource (rows bytes))
   pair_accepted coordinator resource = record {
     ascending = ascending_kept _ (own_rows coordinator (rows bytes)) (ascending_kept _ (rows bytes) rows_ascend);
-    each = subst (All (OfPair coordinator resource)) (sym (pair_kept coordinator resource (rows bytes)))
+    each = subst (AllByRecursion (OfPair coordinator resource)) (sym (pair_kept coordinator resource (rows bytes)))
         (all_of (filter (of_pair coordinator resource) (rows bytes)) (kept_by_passes (of_pair coordinator resource) (rows bytes)) (all_kept_by (of_pair coordinator resource) Passes (rows bytes) rows_pass));
   }
     where
-      all_of : (rs : List Row) → All (λ r. of_pair coordinator resource r ≡ true) rs → All Passes rs → All (OfPair coordinator resource) rs
+      all_of : (rs : List Row) → AllByRecursion (λ r. of_pair coordinator resource r ≡ true) rs → AllByRecursion Passes rs → AllByRecursion (OfPair coordinator resource) rs
       all_of [] a b = tt
       all_of (r ∷ rs) a b =
           let p = and_parts (eqb r.key.coordinator coordinator) (eqb r.key.resource resource) a.0 in

@@ -1,6 +1,6 @@
 -- Where the rows of an accepted sheet pass from before a pair's to behind.
 use Rattle.std.proofs.Common.{◌≡◌, ℕ, zero, suc, ◌+◌, ◌<◌, ◌≤◌, Bool, true, false, ltb, ◌⊎◌, List, [], ◌∷◌, ◌++◌, length, get_or, take, drop, filter, sym, refl, ap, ◌∙◌, subst, inl, inr, append-nil, arith}
-use Rattle.std.specs.List.{AllByRecursion as All}
+use Rattle.std.specs.List.{AllByRecursion}
 use Rattle.std.proofs.lemmas.List.Elements.{filter-append}
 use Rattle.std.proofs.ByRecursion.{All-from_get_or, all_kept_by, kept_by_passes}
 use Rattle.std.proofs.lemmas.List.{get_or-drop, get_or-take, length-drop, length-take-le, take-append-drop}
@@ -122,7 +122,7 @@ module _ (bytes : List ℕ) (ok : Accepted bytes) (coordinator n : ℕ) (first :
 pub other_not : (coordinator resource : ℕ) (r : Row) → (r.key.coordinator ≡ coordinator → ⊥) → of_pair coordinator resource r ≡ false
 other_not coordinator resource r h = rw (ne_eqb r.key.coordinator coordinator h)
 
-kept_none : (p : Row → Bool) (rs : List Row) → All (λ r. p r ≡ false) rs → filter p rs ≡ []
+kept_none : (p : Row → Bool) (rs : List Row) → AllByRecursion (λ r. p r ≡ false) rs → filter p rs ≡ []
 kept_none p [] h = refl
 kept_none p (r ∷ rs) h = rw h.0 (kept_none p rs h.1)
 
@@ -159,11 +159,11 @@ module _ (bytes : List ℕ) (coordinator resource : ℕ) where
           ap own (get_or-drop n (rows bytes) i no_row ∙ row_by_place bytes (n + i) no_row w) ∙ h (n + i) (omega arith) w
 
   -- what the rows of the pair keep to
-  pub all_of_pair : (P : Row → Type 0) → ((i : ℕ) → i < row_count bytes → own (row_at bytes i) ≡ true → P (row_at bytes i)) → All P (pair_rows coordinator resource (rows bytes))
+  pub all_of_pair : (P : Row → Type 0) → ((i : ℕ) → i < row_count bytes → own (row_at bytes i) ≡ true → P (row_at bytes i)) → AllByRecursion P (pair_rows coordinator resource (rows bytes))
   all_of_pair P h =
-      subst (All P) (sym (pair_kept coordinator resource (rows bytes)))
+      subst (AllByRecursion P) (sym (pair_kept coordinator resource (rows bytes)))
       (both (filter own (rows bytes)) (kept_by_passes own (rows bytes)) (all_kept_by own (λ r. own r ≡ true → P r) (rows bytes) (all_rows bytes (λ r. own r ≡ true → P r) h)))
     where
-      both : (rs : List Row) → All (λ r. own r ≡ true) rs → All (λ r. own r ≡ true → P r) rs → All P rs
+      both : (rs : List Row) → AllByRecursion (λ r. own r ≡ true) rs → AllByRecursion (λ r. own r ≡ true → P r) rs → AllByRecursion P rs
       both [] a b = tt
       both (r ∷ rs) a b = (b.0 a.0, both rs a.1 b.1)

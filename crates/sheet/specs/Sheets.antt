@@ -1,6 +1,6 @@
 -- What an accepted sheet holds, and what its rows keep to.
 use Rattle.std.specs.Prelude.{◌≡◌, ℕ, true, List, [], ◌∷◌}
-use Rattle.std.specs.List.{AllByRecursion as All}
+use Rattle.std.specs.List.{AllByRecursion}
 use Rattle.sheet.specs.declared.row.Row.{Row}
 use Rattle.sheet.specs.declared.sheet.Sheet.{Sheet}
 use Rattle.sheet.specs.Rows.{rows}
@@ -12,7 +12,7 @@ sheet_rows s = rows s.bytes.now
 -- each row's key is below that of every later row
 abbrev pub Ascending : List Row → Type 0
 Ascending [] = Unit {0}
-Ascending (r ∷ rs) = All (λ later. below (key_bytes r.key) (key_bytes later.key) ≡ true) rs × Ascending rs
+Ascending (r ∷ rs) = AllByRecursion (λ later. below (key_bytes r.key) (key_bytes later.key) ≡ true) rs × Ascending rs
 
 -- a row that passes questions 4 and 5
 pub record Passes (r : Row) : Type 0 where
@@ -28,4 +28,4 @@ pub record OfPair (coordinator resource : ℕ) (r : Row) : Type 0 where
 -- rows that an accepted sheet can have for the pair of a coordinator and a resource
 pub record PairRows (coordinator resource : ℕ) (rs : List Row) : Type 0 where
   pub ascending : Ascending rs
-  pub each : All (OfPair coordinator resource) rs
+  pub each : AllByRecursion (OfPair coordinator resource) rs

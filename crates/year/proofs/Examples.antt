@@ -1,6 +1,6 @@
 -- The worked examples, computed.
 use Rattle.std.proofs.Common.{◌≡◌, List, [], ◌∷◌, map, refl}
-use Rattle.std.specs.List.{AllByRecursion as All}
+use Rattle.std.specs.List.{AllByRecursion}
 use Rattle.questions.specs.Questions.{ask, first, in_turn}
 use Rattle.sheet.specs.Questions.{row_questions, row_refusal, count_refusal, sheet_refusal}
 use Rattle.charges.specs.Rules.{quantity_of, line, line_of}
@@ -12,7 +12,7 @@ use Rattle.year.specs.Book.{no_market, no_rc}
 use Rattle.year.specs.Examples.{Example, Examples, Holds, result, table}
 
 -- the lists are equal, so each place is
-all_equal : (es : List Example) → map (λ e. result e.worked) es ≡ map (λ e. e.expected) es → All Holds es
+all_equal : (es : List Example) → map (λ e. result e.worked) es ≡ map (λ e. e.expected) es → AllByRecursion Holds es
 all_equal [] h = tt
 all_equal (e ∷ es) h = (cc, all_equal es (cc))
 

@@ -1,6 +1,6 @@
 -- Worked examples, in one table: calls on a new book with the balances that they leave, and quotes.
 use Rattle.std.specs.Prelude.{◌≡◌, ℕ, ◌*◌, List, [], ◌∷◌, length, ℤ, pos, negsuc, Some, None, Option}
-use Rattle.std.specs.List.{AllByRecursion as All}
+use Rattle.std.specs.List.{AllByRecursion}
 use Rattle.questions.specs.Questions.{Refusal, no_at}
 use Rattle.sheet.specs.Questions.{sheet_refusal}
 use Rattle.charges.specs.Rules.{Meaning, meaning}
@@ -107,4 +107,4 @@ table =
     ∷ []
 
 abbrev pub Examples : Type 0
-Examples = All Holds table
+Examples = AllByRecursion Holds table

@@ -10,7 +10,7 @@ ghost use Rattle.journal.specs.Kept.{AnyYear, Continued, Kept};
 
 use super::KeptBook;
 use crate::entry::{Answer, Entry};
-use crate::year::{enter, open_year};
+use crate::kept_year::{enter, open_year};
 use charges::rule::ChargeRule;
 use yearbook::book::YearBook;
 use yearbook::fault::BookFault;

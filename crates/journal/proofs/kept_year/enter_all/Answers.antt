@@ -3,8 +3,8 @@ use Rattle.yearbook.specs.View.{book_of}
 use Rattle.journal.specs.Entries.{call_of}
 use Rattle.journal.proofs.Kept.{continued}
 use Rattle.journal.proofs.Turns.{taking_none, taking_written, taking_past, taking_all}
-use Rattle.journal.proofs.year.enter_all.Goals as goal
-use Rattle.journal.proofs.year.enter_all.Goals.{then-i-answers, else-i-answers}
+use Rattle.journal.proofs.kept_year.enter_all.Goals as goal
+use Rattle.journal.proofs.kept_year.enter_all.Goals.{then-i-answers, else-i-answers}
 
 pub loop-i-init : goal.loop-i-init
 loop-i-init g c = taking_none (call_of g.R.ChargeRule.code g.R.ChargeRule.quantity) (book_of c.args.book.now) c.args.entries.now c.args.answers.now

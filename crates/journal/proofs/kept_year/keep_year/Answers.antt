@@ -5,7 +5,7 @@ use Rattle.year.specs.Terms.{Terms}
 use Rattle.yearbook.specs.View.{book_of}
 use Rattle.journal.specs.Entries.{call_of, written}
 use Rattle.journal.proofs.Kept.{kept_opening, kept_refused, answers_opening, answers_refused}
-use Rattle.journal.proofs.year.keep_year.Goals as goal
+use Rattle.journal.proofs.kept_year.keep_year.Goals as goal
 
 pub returns-in_err-open_year : goal.returns-in_err-open_year
 returns-in_err-open_year g c =

@@ -1,7 +1,7 @@
 use Rattle.year.specs.Terms.{Terms}
 use Rattle.yearbook.specs.View.{book_of}
 use Rattle.journal.proofs.Kept.{kept_by_opening}
-use Rattle.journal.proofs.year.open_year.Goals as goal
+use Rattle.journal.proofs.kept_year.open_year.Goals as goal
 
 pub returns : goal.returns
 returns c =
