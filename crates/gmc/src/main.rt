@@ -15,6 +15,7 @@ use crate::malformed::{Malformed, Quoted};
 use anyhow::anyhow;
 use std::fs::File;
 use std::io::{BufRead, BufReader, Read};
+use std::process::ExitCode;
 use std::str::from_utf8;
 use std::{env, io};
 
@@ -84,10 +85,12 @@ fn run(rt: &HostRuntime) -> anyhow::Result<()> {
     }
 }
 
-fn main(rt: HostRuntime) -> anyhow::Result<()> {
-    let done = run(&rt);
-    if let Err(error) = &done {
-        eprintln!(rt; "gmc: {error}")?;
+fn main(rt: HostRuntime) -> ExitCode {
+    match run(&rt) {
+        Ok(()) => ExitCode::SUCCESS,
+        Err(error) => {
+            let _ = eprintln!(rt; "gmc: {error}");
+            ExitCode::FAILURE
+        }
     }
-    done
 }
