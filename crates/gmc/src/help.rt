@@ -15,11 +15,11 @@ Blank lines and lines that start with # are passed over.
   default COORDINATOR CENTS               lets the others carry an unpaid RC amount
   balances COORDINATOR                    market and RC balance, in cents
   totals                                  the sums of both
-  exclusion market_services|system_operations COORDINATOR MARK
+  exclusion market-services|system-operations COORDINATOR MARK
   ramp-in COORDINATOR PERCENT
   grandfathering COORDINATOR RESOURCE ALLOWANCE
 
-CHARGE is market_services, system_operations, bid_segment, tor or trade.
+CHARGE is market-services, system-operations, bid-segment, tor or trade.
 SHEET is a file's path, or hex: and the bytes in hexadecimal.
 Each command prints one line, beginning with its line's number in the journal:
   N COMMAND ok ANSWER

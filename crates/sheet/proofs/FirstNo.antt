@@ -127,12 +127,15 @@ first_asked_no bytes =
 pub first_asked_no_of : (bytes : List ℕ) (a : Result ℕ Refusal) → a ≡ answer (sheet_refusal bytes) (row_count bytes) → FirstAskedNo bytes a
 first_asked_no_of bytes a e = subst (FirstAskedNo bytes) (sym e) (first_asked_no bytes)
 
-first_no : (bytes : List ℕ) (a : Result ℕ Refusal) → FirstAskedNo bytes a → FirstNo bytes a
-first_no bytes (Ok n) h = h
-first_no bytes (Err r) h = (h.0, h.2, h.3, h.4)
+unasked : (bytes : List ℕ) (a : Result ℕ Refusal) → FirstAskedNo bytes a → FirstNo bytes a
+unasked bytes (Ok n) h = h
+unasked bytes (Err r) h = (h.0, h.2, h.3, h.4)
+
+pub first_no : (bytes : List ℕ) → FirstNo bytes (answer (sheet_refusal bytes) (row_count bytes))
+first_no bytes = unasked bytes (answer (sheet_refusal bytes) (row_count bytes)) (first_asked_no bytes)
 
 pub first_no_of : (bytes : List ℕ) (a : Result ℕ Refusal) → a ≡ answer (sheet_refusal bytes) (row_count bytes) → FirstNo bytes a
-first_no_of bytes a e = first_no bytes a (first_asked_no_of bytes a e)
+first_no_of bytes a e = subst (FirstNo bytes) (sym e) (first_no bytes)
 
 -- ---- the answer is the only one
 

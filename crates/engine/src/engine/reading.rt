@@ -1,7 +1,7 @@
 // The balances of a coordinator and of the book. What is read off it stands under the year law.
 ghost use Rattle.std.specs.Prelude.{◌≡◌};
 ghost use Rattle.questions.specs.Questions.{answer, told};
-ghost use Rattle.year.specs.Reading.{balances as balances-of, balances_refusal, totals as totals-of};
+ghost use Rattle.year.specs.Reading.{balances as balances_of, balances_refusal, totals as totals_of};
 ghost use Rattle.yearbook.specs.Faults.{book_fault};
 ghost use Rattle.yearbook.specs.View.{book_of};
 ghost use Rattle.journal.specs.Kept.{AnyYear};
@@ -12,7 +12,7 @@ use yearbook::fault::BookFault;
 impl Engine {
     // The market and the RC balance of one coordinator.
     pub fn balances(&self, coordinator: usize) -> Result<(i64, u64), BookFault>
-        ensures answered { told book_fault result ≡ answer (balances_refusal (book_of self.now.kept.book) coordinator) (balances-of (book_of self.now.kept.book) coordinator) }
+        ensures answered { told book_fault result ≡ answer (balances_refusal (book_of self.now.kept.book) coordinator) (balances_of (book_of self.now.kept.book) coordinator) }
         ensures law { ∥ AnyYear (book_of self.now.kept.book) ∥₁ }
     {
         self.kept.book().balances(coordinator)
@@ -20,7 +20,7 @@ impl Engine {
 
     // The sums of the market and of the RC balances.
     pub fn totals(&self) -> (i64, u64)
-        ensures answered { result ≡ totals-of (book_of self.now.kept.book) }
+        ensures answered { result ≡ totals_of (book_of self.now.kept.book) }
         ensures law { ∥ AnyYear (book_of self.now.kept.book) ∥₁ }
     {
         self.kept.book().totals()
