@@ -1,4 +1,4 @@
-# FirstNo: some question answered no, not the first
+# FirstNo and FirstAskedNo: some question answered no, not the first
 crates: sheet
 file: crates/sheet/specs/FirstNo.antt
 old: = (q : Question) × (refusal ≡ no_to q) × (Yes bytes q → ⊥) × ((p : Question) → turn p < turn q → Yes bytes p)

@@ -21,6 +21,3 @@ new:
 file: crates/yearbook/proofs/book/YearBook/balances/Answers.antt
 old:     ∙ ap (λ o. answer o (balances (book_of s) k)) (sym (passed_12 s wide k (omega arith)))
 new:     rw (passed_12 s wide k (omega arith))
-file: crates/yearbook/proofs/book/YearBook/balances/Answers.antt
-old: Some, None, sym, ap,
-new: Some, None, sym, refl, ap,

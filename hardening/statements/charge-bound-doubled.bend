@@ -1,4 +1,4 @@
-# Sums, charge-bound: 4,000,000,000 for 2,000,000,000
+# Sums, charge_bound: 4,000,000,000 for 2,000,000,000
 crates: year
 file: crates/year/specs/Amounts.antt
 old: pub charge_bound : a.rc.charge ≤ 2000000000

@@ -1,4 +1,4 @@
-# FirstNo: any count for an accepted sheet
+# FirstNo and FirstAskedNo: any count for an accepted sheet
 crates: sheet
 file: crates/sheet/specs/FirstNo.antt
 old: FirstNo bytes (Ok n) = (n ≡ row_count bytes) ×

@@ -1,4 +1,4 @@
-# YearLaw, market-bounds: of all coordinators but the last
+# YearLaw, market_bounds: of all coordinators but the last
 crates: year
 file: crates/year/specs/Year.antt
 old: use Rattle.std.specs.Prelude.{◌≡◌, ℕ, ◌<◌,

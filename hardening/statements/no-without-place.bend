@@ -1,4 +1,4 @@
-# FirstNo: the place left out of the refusal
+# FirstNo and FirstAskedNo: the place left out of the refusal
 crates: sheet
 file: crates/sheet/specs/FirstNo.antt
 old: = (q : Question) × (refusal ≡ no_to q) ×

@@ -1,4 +1,4 @@
-# FirstNo: of an accepted sheet only the first row
+# FirstNo and FirstAskedNo: of an accepted sheet only the first row
 crates: sheet
 file: crates/sheet/specs/FirstNo.antt
 old: turn q < 2 + 3 * n → Yes bytes q)
