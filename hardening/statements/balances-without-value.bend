@@ -1,8 +1,8 @@
 # balances: only whether the call is refused
 crates: engine
 file: crates/yearbook/src/book/reading.rt
-old: told book_fault result ≡ answer (balances_refusal (book_of self.now) coordinator) (balances-of (book_of self.now) coordinator)
-new: is_ok result ≡ is_ok (answer (balances_refusal (book_of self.now) coordinator) (balances-of (book_of self.now) coordinator))
+old: told book_fault result ≡ answer (balances_refusal (book_of self.now) coordinator) (balances_of (book_of self.now) coordinator)
+new: is_ok result ≡ is_ok (answer (balances_refusal (book_of self.now) coordinator) (balances_of (book_of self.now) coordinator))
 file: crates/yearbook/src/book/reading.rt
 old: ghost use Rattle.std.specs.Prelude.{◌≡◌};
 new: ghost use Rattle.std.specs.Prelude.{◌≡◌, is_ok};
