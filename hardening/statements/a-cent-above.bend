@@ -4,5 +4,5 @@ file: crates/year/specs/Defaults.antt
 old: pub below : (rise *ℤ pos whole) <ℤ (pos (amount * demand) +ℤ pos whole)
 new: pub below : (rise *ℤ pos whole) ≤ℤ (pos (amount * demand) +ℤ pos whole)
 file: crates/year/specs/Defaults.antt
-old: use lib.Signed.{_<ℤ_}
-new: use lib.Signed.{_<ℤ_, _≤ℤ_}
+old: neg_ℤ, ◌<ℤ◌,
+new: neg_ℤ, ◌<ℤ◌, ◌≤ℤ◌,

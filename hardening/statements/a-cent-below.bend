@@ -4,5 +4,5 @@ file: crates/year/specs/Defaults.antt
 old: pub above : (pos (amount * demand) -ℤ pos whole) <ℤ (rise *ℤ pos whole)
 new: pub above : (pos (amount * demand) -ℤ pos whole) ≤ℤ (rise *ℤ pos whole)
 file: crates/year/specs/Defaults.antt
-old: use lib.Signed.{_<ℤ_}
-new: use lib.Signed.{_<ℤ_, _≤ℤ_}
+old: neg_ℤ, ◌<ℤ◌,
+new: neg_ℤ, ◌<ℤ◌, ◌≤ℤ◌,

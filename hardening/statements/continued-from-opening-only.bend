@@ -7,5 +7,5 @@ file: crates/journal/proofs/Kept.antt
 old: continued before calls now e t ok earlier is =
 new: continued before calls now e t ok earlier none is =
 file: crates/journal/proofs/Kept.antt
-old: rw ok (more t ok [] (opened-by
-new: rw ok (more t ok [] refl (opened-by
+old: rw ok (more t ok [] (opened_by
+new: rw ok (more t ok [] refl (opened_by

@@ -1,7 +1,7 @@
 # Entered, allowed: dropped
 crates: concessions
 file: crates/concessions/specs/Concessions.antt
-old: pub allowed : allowance-of coordinator resource after ≡ allowance
+old: pub allowed : allowance_of coordinator resource after ≡ allowance
 new: pub allowed : Unit {0}
 file: crates/concessions/proofs/Lookup.antt
 old:     allowed = allowed listed;

@@ -7,5 +7,5 @@ file: crates/journal/proofs/Kept.antt
 old:     (λ r refused. rw refused (rw refused at e))
 new:     (λ r refused. rw refused tt)
 file: crates/journal/proofs/Kept.antt
-old: kept-refused r refused now k = rw refused (rw refused at k)
-new: kept-refused r refused now k = rw refused tt
+old: kept_refused r refused now k = rw refused (rw refused at k)
+new: kept_refused r refused now k = rw refused tt

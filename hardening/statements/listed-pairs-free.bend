@@ -1,8 +1,8 @@
-# Entered, pairs-listed: dropped
+# Entered, others_listed: dropped
 crates: concessions
 file: crates/concessions/specs/Concessions.antt
-old: pub pairs-listed : (c r : ℕ) → is-listed c r after ≡ ((eqb coordinator c && eqb resource r) || is-listed c r before)
-new: pub pairs-listed : Unit {0}
+old: pub others_listed : (c r : ℕ) → is_listed c r after ≡ ((coordinator == c && resource == r) || is_listed c r before)
+new: pub others_listed : Unit {0}
 file: crates/concessions/proofs/Lookup.antt
-old:     pairs-listed = λ c r. pairs-listed c r listed;
-new:     pairs-listed = tt;
+old:     others_listed = λ c r. others_listed c r listed;
+new:     others_listed = tt;

@@ -1,11 +1,11 @@
-# YearLaw, market-bounds: of all coordinators but the last
+# YearLaw, market_bounds: of all coordinators but the last
 crates: year
 file: crates/year/specs/Year.antt
-old: use Prim.Native.Nat.{ℕ, _<_}
-new: use Prim.Native.Nat.{ℕ, _-_, _<_}
+old: use Rattle.std.specs.Prelude.{◌≡◌, ℕ, ◌<◌,
+new: use Rattle.std.specs.Prelude.{◌≡◌, ℕ, ◌-◌, ◌<◌,
 file: crates/year/specs/Year.antt
-old: → MarketBounded (count t) (after t calls .market)
-new: → MarketBounded (count t - 1) (after t calls .market)
+old: → MarketBounded (count t) (after t calls).market
+new: → MarketBounded (count t - 1) ((after t calls).market)
 file: crates/year/proofs/Year.antt
-old: market-bounds = λ cs. bounds-in t o (after t cs) (sound-after t o cs);
-new: market-bounds = λ cs k w. bounds-in t o (after t cs) (sound-after t o cs) k (omega arith);
+old: market_bounds = λ cs. bounds_in t o (after t cs) (sound_after t o cs);
+new: market_bounds = λ cs k w. bounds_in t o (after t cs) (sound_after t o cs) k (omega arith);

@@ -1,7 +1,7 @@
-# FirstNo: a question of a row that the sheet has not
+# FirstAskedNo: a question of a row that the sheet has not
 crates: sheet
 file: crates/sheet/specs/FirstNo.antt
-old: × (turn q < 2 + 3 * row-count bytes) ×
+old: × (turn q < 2 + 3 * row_count bytes) ×
 new: × Unit {0} ×
 file: crates/sheet/proofs/FirstNo.antt
 old: (λ large. (Bounded i, omega arith,
@@ -16,5 +16,5 @@ file: crates/sheet/proofs/FirstNo.antt
 old: (Measured, omega arith, refl,
 new: (Measured, tt, refl,
 file: crates/sheet/proofs/FirstNo.antt
-old: (Counted, omega arith, p .0,
-new: (Counted, tt, p .0,
+old: (Counted, omega arith, p.0,
+new: (Counted, tt, p.0,

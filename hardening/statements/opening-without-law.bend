@@ -1,8 +1,8 @@
 # open_year, law: dropped
 crates: journal
 file: crates/journal/src/kept_year.rt
-old: ⌜ Kept (open-refusal (terms-of (now (demands .entry)) (now (flags .entry)))) (terms-of (now (demands .entry)) (now (flags .entry))) [] (book-of (now (book .entry))) (book-of (now (book .exit))) ⌝
-new: ⌜ Unit {0} ⌝
-file: crates/journal/proofs/year/open_year/Answers.antt
-old: law = kept-by-opening t (book-of (c .args .book .now)) _ (c .open .ensures .left) }
+old: Kept (open_refusal (record { demands = demands.now; flags = flags.now })) (record { demands = demands.now; flags = flags.now }) [] (book_of book.old) (book_of book.new)
+new: Unit {0}
+file: crates/journal/proofs/kept_year/open_year/Answers.antt
+old: law = kept_by_opening t (book_of c.args.book.now) _ c.open.ensures.left }
 new: law = tt }

@@ -1,8 +1,8 @@
-# Entered, others-allowed: dropped
+# Entered, others_allowed: dropped
 crates: concessions
 file: crates/concessions/specs/Concessions.antt
-old: pub others-allowed : (c r : ℕ) → (eqb coordinator c && eqb resource r) ≡ false → allowance-of c r after ≡ allowance-of c r before
-new: pub others-allowed : Unit {0}
+old: pub others_allowed : (c r : ℕ) → (coordinator == c && resource == r) ≡ false → allowance_of c r after ≡ allowance_of c r before
+new: pub others_allowed : Unit {0}
 file: crates/concessions/proofs/Lookup.antt
-old:     others-allowed = λ c r other. others-allowed c r other listed;
-new:     others-allowed = tt;
+old:     others_allowed = λ c r other. others_allowed c r other listed;
+new:     others_allowed = tt;

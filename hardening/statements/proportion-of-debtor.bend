@@ -1,5 +1,5 @@
 # DefaultLaw, proportion: by the demand of the debtor (false)
 crates: year
 file: crates/year/specs/Defaults.antt
-old: WithinCent unpaid (demand-at t coordinator)
-new: WithinCent unpaid (demand-at t debtor)
+old: WithinCent unpaid (demand_at t coordinator)
+new: WithinCent unpaid (demand_at t debtor)

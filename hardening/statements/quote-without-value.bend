@@ -1,29 +1,29 @@
 # quote: only whether the call is refused
 crates: engine
 file: crates/yearbook/src/book/posting.rt
-old: ⌜ told book-fault r ≡ answer (quote-refusal (book-of (now (self .entry))) rate (now (bytes .entry)) coordinator) (quoting (meaning (code (now (rule .entry))) (quantity (now (rule .entry)))) rate (now (bytes .entry)) coordinator) ⌝
-new: ⌜ isOk r ≡ isOk (answer (quote-refusal (book-of (now (self .entry))) rate (now (bytes .entry)) coordinator) (quoting (meaning (code (now (rule .entry))) (quantity (now (rule .entry)))) rate (now (bytes .entry)) coordinator)) ⌝
+old: told book_fault result ≡ answer (quote_refusal (book_of self.now) rate bytes.now coordinator) (quoting (meaning (R.code rule.now) (R.quantity rule.now)) rate bytes.now coordinator)
+new: is_ok result ≡ is_ok (answer (quote_refusal (book_of self.now) rate bytes.now coordinator) (quoting (meaning (R.code rule.now) (R.quantity rule.now)) rate bytes.now coordinator))
 file: crates/yearbook/src/book/posting.rt
-old: ghost use Rattle·std.specs.Results.{Cases};
-new: ghost use Rattle·std.specs.Results.{Cases, isOk};
+old: ghost use Rattle.std.specs.Prelude.{◌≡◌, length,
+new: ghost use Rattle.std.specs.Prelude.{◌≡◌, is_ok, length,
 file: crates/yearbook/proofs/book/YearBook/quote/Answers.antt
-old:     refused-answer _ _ _ (quote-8
-new:     rw (quote-8
+old:     refused_answer _ _ _ (quote_8 s wide c.args.rate c.args.bytes.now c.args.coordinator (omega arith))
+new:     rw (quote_8 s wide c.args.rate c.args.bytes.now c.args.coordinator (omega arith))
 file: crates/yearbook/proofs/book/YearBook/quote/Answers.antt
-old: rw (p .1, p .2) (refused-answer _ _ _ (quote-sheet
-new: rw (p .1) (rw (quote-sheet
+old: rw (p.1, p.2) (refused_answer _ _ _ (quote_sheet
+new: rw p.1 (rw (quote_sheet
 file: crates/yearbook/proofs/book/YearBook/quote/Answers.antt
-old: rw (p .1, p .2) (refused-answer _ _ _ (quote-9
-new: rw (p .1) (rw (quote-9
+old: rw (p.1, p.2) (refused_answer _ _ _ (quote_9
+new: rw p.1 (rw (quote_9
 file: crates/yearbook/proofs/book/YearBook/quote/Answers.antt
-old:     refused-answer _ _ _ (quote-12
-new:     rw (quote-12
+old:     refused_answer _ _ _ (quote_12
+new:     rw (quote_12
 file: crates/yearbook/proofs/book/YearBook/quote/Answers.antt
-old:     accepted-answer _ _ _ (quote-none
-new:     rw (quote-none
+old:     accepted_answer _ _ _ (quote_none
+new:     rw (quote_none
 file: crates/yearbook/proofs/book/YearBook/quote/Answers.antt
-old:     (ap₂ (λ (x y : ℕ). (x, y)) q (c .line-at .ensures .value ∙ ap (λ x. line x (c .args .rate)) q))
+old:     (ap₂ (λ (x y : ℕ). (x, y)) q (c.line_at.ensures.value ∙ ap (λ x. line x c.args.rate) q))
 new:     refl
 file: crates/yearbook/proofs/book/YearBook/quote/Answers.antt
-old: use mathlib.Core.Path.{_≡_, ap, ap₂, sym, _∙_}
-new: use mathlib.Core.Path.{_≡_, refl, ap, ap₂, sym, _∙_}
+old: use Rattle.std.proofs.Common.{◌≡◌, ℕ, length, sym, ap,
+new: use Rattle.std.proofs.Common.{◌≡◌, ℕ, length, sym, refl, ap,

@@ -4,5 +4,5 @@ file: crates/year/specs/Balances.antt
 old: pub rc : (coordinator : ℕ) → coordinator < count t →
 new: pub rc : (coordinator : ℕ) → coordinator ≡ 0 → coordinator < count t →
 file: crates/year/proofs/Year.antt
-old: rc = λ k w. rc-each
-new: rc = λ k first w. rc-each
+old: rc = λ k w. rc_each
+new: rc = λ k first w. rc_each

@@ -1,5 +1,5 @@
 # set_mark: nothing of the table after a refusal
 crates: concessions
 file: crates/concessions/src/exclusion.rt
-old: (λ _. now (self .exit) ≡ now (self .entry)) ⌝ }
-new: (λ _. Unit {0}) ⌝ }
+old: (λ _. self.new ≡ self.old)
+new: (λ _. Unit {0})

@@ -1,14 +1,14 @@
 # open, left: nothing of the book after a refusal
 crates: journal
 file: crates/yearbook/src/book/opening.rt
-old: ⌜ book-of (now (self .exit)) ≡ settled (open-refusal (terms-of (now (demands .entry)) (now (flags .entry)))) (book-of (now (self .entry))) (opened (terms-of (now (demands .entry)) (now (flags .entry)))) ⌝
-new: ⌜ (open-refusal (terms-of (now (demands .entry)) (now (flags .entry))) ≡ None → book-of (now (self .exit)) ≡ settled (open-refusal (terms-of (now (demands .entry)) (now (flags .entry)))) (book-of (now (self .entry))) (opened (terms-of (now (demands .entry)) (now (flags .entry))))) ⌝
+old: book_of self.new ≡ settled (open_refusal (record { demands = demands.now; flags = flags.now })) (book_of self.old) (opened (record { demands = demands.now; flags = flags.now }))
+new: open_refusal (record { demands = demands.now; flags = flags.now }) ≡ None → book_of self.new ≡ settled (open_refusal (record { demands = demands.now; flags = flags.now })) (book_of self.old) (opened (record { demands = demands.now; flags = flags.now }))
 file: crates/yearbook/src/book/opening.rt
-old: ghost use Rattle·questions.specs.Questions.{acceptance, told};
-new: ghost use Rattle·std.specs.declared.option.Option.the-variants.{None};\nghost use Rattle·questions.specs.Questions.{acceptance, told};
+old: ghost use Rattle.std.specs.Prelude.{◌≡◌};
+new: ghost use Rattle.std.specs.Prelude.{◌≡◌, None};
 file: crates/yearbook/proofs/book/YearBook/open/Answers.antt
-old: left = refused-leaves _ tt _ _ _ e;
-new: left = λ passed. refused-leaves _ tt _ _ _ e;
+old: left = refused_leaves _ tt _ _ _ e;
+new: left = λ passed. refused_leaves _ tt _ _ _ e;
 file: crates/yearbook/proofs/book/YearBook/open/Answers.antt
-old: left = accepted-leaves _ _ _ _ ok
-new: left = λ passed. accepted-leaves _ _ _ _ ok
+old: left = accepted_leaves _ _ _ _ ok
+new: left = λ passed. accepted_leaves _ _ _ _ ok

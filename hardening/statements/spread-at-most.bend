@@ -4,8 +4,8 @@ file: crates/year/specs/Spread.antt
 old: → total (spread amount weights) ≡ amount
 new: → total (spread amount weights) ≤ amount
 file: crates/year/specs/Spread.antt
-old: _/_, _<_}
-new: _/_, _<_, _≤_}
+old: ◌/◌, ◌<◌,
+new: ◌/◌, ◌<◌, ◌≤◌,
 file: crates/year/proofs/Spread.antt
 old:   whole = whole u ws;
 new:   whole = λ h. let e = whole u ws h in omega arith;

@@ -1,5 +1,5 @@
 # totals: nothing of the RC side
 crates: engine
 file: crates/yearbook/src/book/reading.rt
-old: ⌜ r ≡ totals-of (book-of (now (self .entry))) ⌝
-new: ⌜ r .0 ≡ totals-of (book-of (now (self .entry))) .0 ⌝
+old: result ≡ totals_of (book_of self.now)
+new: result.0 ≡ (totals_of (book_of self.now)).0

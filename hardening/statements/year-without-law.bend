@@ -2,11 +2,11 @@
 crates: journal
 edit: hardening/journal/year-forgotten.edit
 file: crates/journal/src/kept_year.rt
-old: ⌜ Kept (open-refusal (terms-of (now (demands .entry)) (now (flags .entry)))) (terms-of (now (demands .entry)) (now (flags .entry))) (map (call-of code quantity) (now (entries .entry))) (book-of (now (book .entry))) (book-of (now (book .exit))) ⌝
-new: ⌜ Unit {0} ⌝
-file: crates/journal/proofs/year/keep_year/Answers.antt
-old: law = kept-refused t calls (book-of (c .args .book .now)) _ refused _ (c .in-Break-open-year .ensures tt .law);
+old: Kept (open_refusal (record { demands = demands.now; flags = flags.now })) (record { demands = demands.now; flags = flags.now }) (map (call_of R.code R.quantity) entries.now) (book_of book.old) (book_of book.new)
+new: Unit {0}
+file: crates/journal/proofs/kept_year/keep_year/Answers.antt
+old: law = kept_refused t calls (book_of c.args.book.now) _ refused _ c.in_err-open_year.ensures.law;
 new: law = tt;
-file: crates/journal/proofs/year/keep_year/Answers.antt
-old: law = kept-opening t calls (book-of (c .args .book .now)) ok _ _ (o .law) (c .enter-all .ensures .law);
+file: crates/journal/proofs/kept_year/keep_year/Answers.antt
+old: law = kept_opening t calls (book_of c.args.book.now) ok _ _ o.law c.enter_all.ensures.law;
 new: law = tt;
