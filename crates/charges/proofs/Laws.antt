@@ -1,10 +1,14 @@
 -- The laws of the five charges together.
 use Rattle.charges.specs.Laws.{FiguresArrive, ChargesBounded}
-use Rattle.charges.proofs.MarketServicesHours.{market_arrives, market_bounded}
-use Rattle.charges.specs.SystemOperationsFacts.{system_arrives, system_bounded}
-use Rattle.charges.specs.BidSegmentFacts.{segment_arrives, segment_bounded}
-use Rattle.charges.specs.TorFacts.{tor_arrives, tor_bounded}
-use Rattle.charges.specs.TradeFeeFacts.{trade_arrives, trade_bounded}
+use Rattle.charges.proofs.MarketServicesFacts.{market_arrives, market_bounded}
+use Rattle.charges.specs.SystemOperationsFacts.{system_bounded}
+use Rattle.charges.proofs.SystemOperationsFacts.{system_arrives}
+use Rattle.charges.specs.BidSegmentFacts.{segment_bounded}
+use Rattle.charges.proofs.BidSegmentFacts.{segment_arrives}
+use Rattle.charges.specs.TorFacts.{tor_bounded}
+use Rattle.charges.proofs.TorFacts.{tor_arrives}
+use Rattle.charges.specs.TradeFeeFacts.{trade_bounded}
+use Rattle.charges.proofs.TradeFeeFacts.{trade_arrives}
 
 pub figures_arrive : FiguresArrive
 figures_arrive = record {

@@ -1,5 +1,15 @@
+pub mod BidSegmentFacts
 pub mod Examples
+pub mod Grouping
 pub mod Laws
-pub mod MarketServicesHours
+pub mod MarketServicesFacts
+pub mod Order
 pub mod Quantities
+pub mod Reached
+pub mod Runs
+pub mod Splits
+pub mod Sums
+pub mod SystemOperationsFacts
+pub mod TorFacts
+pub mod TradeFeeFacts
 pub mod Walks

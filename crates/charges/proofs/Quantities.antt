@@ -10,7 +10,8 @@ use Rattle.sheet.specs.Questions.{Accepted}
 use Rattle.sheet.proofs.Pairs.{length_rows, row_by_place, no_row, pair_kept, pair_accepted, own_few}
 use Rattle.charges.specs.Sums.{over}
 use Rattle.charges.specs.Rules.{Bounded, Meaning, quantity_of}
-use Rattle.charges.specs.SumsLemmas.{over_le, over_times, over_more, over_ones, ones, groups_le}
+use Rattle.charges.specs.SumsLemmas.{over_le, over_ones, ones, groups_le}
+use Rattle.charges.proofs.Sums.{over_times, over_more}
 
 -- ---- how large
 

@@ -10,9 +10,9 @@ use Rattle.sheet.specs.Rows.{row_count, row_at, rows, own_rows, pair_rows, of_pa
 use Rattle.sheet.specs.Questions.{Accepted}
 use Rattle.sheet.specs.Sheets.{Passes}
 use Rattle.sheet.proofs.Pairs.{length_rows, row_by_place, no_row, rows_pass, pair_kept, pair_few}
-use Rattle.charges.specs.Running.{Running, after, run, Reached, walk_at}
+use Rattle.charges.specs.Running.{Running, after, run, Reached, walk_at, FiguresBounded}
 use Rattle.charges.specs.declared.walk.Walk.{Walk}
-use Rattle.charges.specs.Reached.{FiguresBounded, reached_low}
+use Rattle.charges.proofs.Reached.{reached_low}
 
 -- the pair's rows keep what all rows keep
 pub all_pair : (P : Row → Type 0) (coordinator resource : ℕ) (rs : List Row) → AllByRecursion P rs → AllByRecursion P (pair_rows coordinator resource rs)

@@ -5,12 +5,9 @@ pub mod Rules
 pub mod Running
 pub mod Sums
 pub mod BidSegmentFacts
-pub mod Order
 pub mod Runs
-pub mod Grouping
 pub mod SumsLemmas
 pub mod Sizes
-pub mod Reached
 pub mod Splits
 pub mod MarketServicesFacts
 pub mod SystemOperationsFacts

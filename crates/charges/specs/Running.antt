@@ -1,5 +1,5 @@
 -- Running figures over rows: where they start, one row more, what they come to. Those of each charge.
-use Rattle.std.specs.Prelude.{◌≡◌, ℕ, ◌+◌, ◌-◌, ◌≤◌, min, Bool, cond, List, length, take, ℤ, pos, ◌+ℤ◌, ◌-ℤ◌, fold, ◌==◌, unsigned_abs}
+use Rattle.std.specs.Prelude.{◌≡◌, ℕ, ◌+◌, ◌-◌, ◌*◌, ◌≤◌, min, Bool, cond, List, length, take, ℤ, pos, ◌+ℤ◌, ◌-ℤ◌, fold, ◌==◌, unsigned_abs}
 use Rattle.std.specs.List.{AllByRecursion}
 use Rattle.sheet.specs.declared.row.Row.{Row}
 use Rattle.sheet.specs.Rows.{pair_rows}
@@ -38,6 +38,10 @@ pub record Reached {S : Type 0} (f : Running S) (n : ℕ) (s : S) : Type 0 where
   pub few : length seen ≤ n
   pub pass : AllByRecursion Passes seen
   pub is : s ≡ after f seen
+
+-- figures that come to at most so much for each row that passes
+abbrev pub FiguresBounded : {S : Type 0} → Running S → ℕ → Type 0
+FiguresBounded f most = (rs : List Row) → AllByRecursion Passes rs → run f rs ≤ most * length rs
 
 -- the walk of a pair after the first n rows of a sheet: its figures are those of the pair's rows among them
 abbrev pub walk_at : {S : Type 0} → Running S → ℕ → ℕ → List Row → ℕ → Walk S

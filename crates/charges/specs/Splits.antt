@@ -1,4 +1,4 @@
--- How far figures by groups have come: what is closed, and the rows of the group at hand.
+-- How far figures by groups have come: what is closed, and the rows of the group at hand. The law of a group rests on it.
 use Rattle.std.specs.Prelude.{◌≡◌, ℕ, ◌+◌, ◌*◌, ◌≤◌, Bool, true, false, cond, List, [], ◌∷◌, ◌++◌, length, fold, ◌==◌, refl}
 use Rattle.std.proofs.Common.{arith, mul-add, mul-le-mul_left, ap, sym, subst, ◌∙◌}
 use Rattle.std.specs.List.{AllByRecursion}
@@ -8,11 +8,10 @@ use Rattle.std.proofs.lemmas.List.Sums.{fold_push}
 use Rattle.sheet.specs.declared.row.Row.{Row}
 use Rattle.charges.specs.declared.group.Group.{Group}
 use Rattle.sheet.specs.Sheets.{Passes}
-use Rattle.charges.specs.Running.{Running, run, grouped, Reached}
-use Rattle.charges.specs.Reached.{FiguresBounded}
+use Rattle.charges.specs.Running.{Running, run, grouped, FiguresBounded}
 
 -- the closed groups had so many rows before, the group at hand has those here, and all are at most n
-record Split {S K : Type 0} (f : Running S) (most : ℕ) (g : Group S K) (n : ℕ) : Type 0 where
+pub record Split {S K : Type 0} (f : Running S) (most : ℕ) (g : Group S K) (n : ℕ) : Type 0 where
   pub before : ℕ
   pub here : List Row
   pub low : g.closed ≤ most * before
@@ -21,13 +20,13 @@ record Split {S K : Type 0} (f : Running S) (most : ℕ) (g : Group S K) (n : �
   pub few : before + length here ≤ n
 
 module _ {S : Type 0} (K : Type 0) (f : Running S) (most : ℕ) (bounded : FiguresBounded f most) (field : Row → ℕ) (least : ℕ) where
-  split_start : Split f most (grouped {K = K} field least f).start 0
+  pub split_start : Split f most (grouped {K = K} field least f).start 0
   split_start = record { before = 0; here = []; low = omega arith; inside_is = refl; pass = tt; few = omega arith }
 
   inside_low : (g : Group S K) (n : ℕ) (s : Split f most g n) → f.total g.inside ≤ most * length s.here
   inside_low g n s = subst (λ x. f.total x ≤ most * length s.here) (sym s.inside_is) (bounded s.here s.pass)
 
-  total_low : (g : Group S K) (n : ℕ) → Split f most g n → g.closed + f.total g.inside ≤ most * n
+  pub total_low : (g : Group S K) (n : ℕ) → Split f most g n → g.closed + f.total g.inside ≤ most * n
   total_low g n s =
       let a = s.low in
       let b = inside_low g n s in
@@ -55,25 +54,11 @@ module _ {S : Type 0} (K : Type 0) (f : Running S) (most : ℕ) (bounded : Figur
         few = let k = s.few in omega arith;
       }
 
-  split_folded : (seen : List Row) (g : Group S K) (n : ℕ) → AllByRecursion Passes seen → Split f most g n → Split f most (fold (grouped {K = K} field least f).add g seen) (n + length seen)
+  pub split_folded : (seen : List Row) (g : Group S K) (n : ℕ) → AllByRecursion Passes seen → Split f most g n → Split f most (fold (grouped {K = K} field least f).add g seen) (n + length seen)
   split_folded [] g n h s = record { before = s.before; here = s.here; low = s.low; inside_is = s.inside_is; pass = s.pass; few = let k = s.few in omega arith }
   split_folded (r ∷ seen) g n h s =
       let t = split_folded seen ((grouped {K = K} field least f).add g r) (n + 1) h.1 (split_add g n r h.0 s) in
       record { before = t.before; here = t.here; low = t.low; inside_is = t.inside_is; pass = t.pass; few = let k = t.few in omega arith }
-
-  split_reached : (g : Group S K) (n : ℕ) → Reached (grouped {K = K} field least f) n g → Split f most g n
-  split_reached g n h =
-      let t = split_folded h.seen (grouped {K = K} field least f).start 0 h.pass split_start in
-      let u = subst (λ x. Split f most x (0 + length h.seen)) (sym h.is) t in
-      record { before = u.before; here = u.here; low = u.low; inside_is = u.inside_is; pass = u.pass; few = let k = u.few in let l = h.few in omega arith }
-
-  pub inside_reached : (g : Group S K) (n : ℕ) → Reached (grouped {K = K} field least f) n g → Reached f n g.inside
-  inside_reached g n h =
-      let s = split_reached g n h in
-      record { seen = s.here; few = let k = s.few in omega arith; pass = s.pass; is = s.inside_is }
-
-  pub reached_total_low : (g : Group S K) (n : ℕ) → Reached (grouped {K = K} field least f) n g → g.closed + f.total g.inside ≤ most * n
-  reached_total_low g n h = total_low g n (split_reached g n h)
 
   pub group_bounded : FiguresBounded (grouped {K = K} field least f) most
   group_bounded rs h = subst (λ n. run (grouped {K = K} field least f) rs ≤ most * n) (omega arith) (total_low _ (0 + length rs) (split_folded rs (grouped {K = K} field least f).start 0 h split_start))

@@ -1,84 +1,31 @@
--- System Operations: its running figures arrive, and how large they are.
-use Rattle.std.specs.Prelude.{◌≡◌, ℕ, ◌+◌, ◌*◌, ◌≤◌, cond, List, [], ◌∷◌, length, ◌+ℤ◌, ◌-ℤ◌, fold, FitsSigned, ◌==◌, unsigned_abs, refl}
-use Rattle.std.proofs.Common.{arith, ap, ap₂, sym, ◌∙◌, to_z, of_z}
-use Rattle.std.specs.Int.{w64}
-use Rattle.std.specs.List.{AllByRecursion}
+-- System Operations: what the laws of its figures and of its charge rest on.
+use Rattle.std.specs.Prelude.{◌≡◌, ℕ, ◌+◌, ◌≤◌, cond, List, [], ◌∷◌, length, ◌-ℤ◌, fold, ◌==◌, unsigned_abs, refl}
+use Rattle.std.proofs.Common.{arith, ap, ap₂, ◌∙◌}
 use Rattle.sheet.specs.declared.row.Row.{Row}
-use Rattle.sheet.specs.Sheets.{OfPair, PairRows, Passes}
 use Rattle.charges.specs.declared.system_operations.Meter.{Meter}
-use Rattle.charges.specs.declared.group.ByHour.{ByHour}
-use Rattle.charges.specs.declared.group.ByInterval.{ByInterval}
-use Rattle.charges.specs.declared.group.ByPart.{ByPart}
 use Rattle.charges.specs.Rules.{Bounded}
-use Rattle.charges.specs.Laws.{PartIsByte}
-use Rattle.charges.specs.Charges.{only, net, by_interval, by_part, metered_less_balance, system_operations}
-use Rattle.charges.specs.Running.{run, Reached, netting, interval_by_interval, part_by_part, meter_figures, system_figures}
-use Rattle.charges.specs.Order.{parts_in_order}
-use Rattle.charges.specs.Runs.{netted, by_hour_run, by_interval_run, by_part_run}
+use Rattle.charges.specs.Charges.{only, net, metered_less_balance, system_operations}
+use Rattle.charges.specs.Running.{run, netting, meter_figures, FiguresBounded}
+use Rattle.charges.specs.Runs.{netted}
 use Rattle.charges.specs.SumsLemmas.{over_add, over_le, passing}
 use Rattle.charges.specs.Sizes.{Under, size, apart, net_low, net_under, groups_under, pair_sizes_low, hundredfold}
-use Rattle.charges.specs.Reached.{FiguresBounded, reached_part, net_reached, added, added_fits, added_is}
-use Rattle.charges.specs.Splits.{group_bounded}
 
 -- ---- one part's meter
 
-parts : (a : Meter) (rs : List Row) → fold meter_figures.add a rs ≡ record {
+pub parts : (a : Meter) (rs : List Row) → fold meter_figures.add a rs ≡ record {
   metered = fold (netting (only 20)).add a.metered rs;
   balance = fold (netting (only 8)).add a.balance rs;
 }
 parts a [] = refl
 parts a (r ∷ rs) = parts (meter_figures.add a r) rs
 
-meter_run : (rs : List Row) → run meter_figures rs ≡ metered_less_balance rs
+pub meter_run : (rs : List Row) → run meter_figures rs ≡ metered_less_balance rs
 meter_run rs = ap meter_figures.total (parts meter_figures.start rs) ∙ ap₂ (λ x y. unsigned_abs (x -ℤ y)) (netted (only 20) rs) (netted (only 8) rs)
 
 pub meter_figures_bounded : FiguresBounded meter_figures 8000000
 meter_figures_bounded rs h = omega (arith, meter_run rs, apart (net (only 20) rs) (net (only 8) rs), net_low (only 20) rs h, net_low (only 8) rs h)
 
-module _ (n : ℕ) (a : Meter) (h : Reached meter_figures n a) where
-  pub metered_low : unsigned_abs a.metered ≤ 4000000 * n
-  metered_low = net_reached (only 20) n a.metered (reached_part meter_figures (netting (only 20)) n a (λ z. z.metered) (λ rs. ap (λ z. z.metered) (parts meter_figures.start rs)) h)
-
-  pub balance_low : unsigned_abs a.balance ≤ 4000000 * n
-  balance_low = net_reached (only 8) n a.balance (reached_part meter_figures (netting (only 8)) n a (λ z. z.balance) (λ rs. ap (λ z. z.balance) (parts meter_figures.start rs)) h)
-
-at_20 : (a : Meter) (r : Row) → r.key.kind ≡ 20 → meter_figures.add a r ≡ record { metered = a.metered +ℤ r.quantity; balance = a.balance }
-at_20 a r e = rw e
-
-at_8 : (a : Meter) (r : Row) → r.key.kind ≡ 8 → meter_figures.add a r ≡ record { metered = a.metered; balance = a.balance +ℤ r.quantity }
-at_8 a r e = rw e
-
--- after one row more, as the code adds it
-module _ (a : Meter) (r : Row) (h : Reached meter_figures 2047 a) (k : Passes r) where
-  pub metered_fits : FitsSigned w64 (added a.metered r.quantity)
-  metered_fits = added_fits a.metered r (omega (arith, metered_low 2047 a h)) k
-
-  pub balance_fits : FitsSigned w64 (added a.balance r.quantity)
-  balance_fits = added_fits a.balance r (omega (arith, balance_low 2047 a h)) k
-
-  pub metered_more : r.key.kind ≡ 20 → record { metered = to_z w64 (of_z w64 (added a.metered r.quantity)); balance = a.balance } ≡ meter_figures.add a r
-  metered_more e = ap (λ z. record { metered = z; balance = a.balance }) (added_is a.metered r (omega (arith, metered_low 2047 a h)) k) ∙ sym (at_20 a r e)
-
-  pub balance_more : r.key.kind ≡ 8 → record { metered = a.metered; balance = to_z w64 (of_z w64 (added a.balance r.quantity)) } ≡ meter_figures.add a r
-  balance_more e = ap (λ z. record { metered = a.metered; balance = z }) (added_is a.balance r (omega (arith, balance_low 2047 a h)) k) ∙ sym (at_8 a r e)
-
 -- ---- the charge
-
-pub system_arrives : (coordinator resource : ℕ) (rs : List Row) → PairRows coordinator resource rs → AllByRecursion PartIsByte rs → 100 * run system_figures rs ≡ system_operations coordinator resource rs
-unfolding system_operations
-system_arrives coordinator resource rs p b =
-    let P : Row → Type 0 = λ r. OfPair coordinator resource r × PartIsByte r in
-    let passes : (r : Row) → P r → Passes r = λ r w. w.0.passes in
-    ap (λ x. 100 * x)
-    (by_hour_run P passes (interval_by_interval (part_by_part meter_figures)) (λ hour. by_interval hour (λ interval. by_part interval metered_less_balance)) refl
-    (by_interval_run P passes (part_by_part meter_figures) (λ interval. by_part interval metered_less_balance) refl
-    (by_part_run P passes meter_figures metered_less_balance refl (λ r w. w.1) meter_run)) rs (parts_in_order coordinator resource rs p b))
-
-pub system_figures_bounded : FiguresBounded system_figures 8000000
-system_figures_bounded =
-    group_bounded ByHour (interval_by_interval (part_by_part meter_figures)) 8000000
-    (group_bounded ByInterval (part_by_part meter_figures) 8000000 (group_bounded ByPart meter_figures 8000000 meter_figures_bounded (λ r. r.key.part) 0) (λ r. r.key.interval) 0)
-    (λ r. r.key.hour) 1
 
 metered_under : Under metered_less_balance (λ r. passing (only 20) size r + passing (only 8) size r)
 metered_under rs = omega (arith, apart (net (only 20) rs) (net (only 8) rs), net_under (only 20) rs, net_under (only 8) rs, over_add (passing (only 20) size) (passing (only 8) size) rs)

@@ -3,7 +3,8 @@ use Rattle.sheet.specs.Rows.{pair_rows}
 use Rattle.sheet.specs.Sheets.{sheet_rows}
 use Rattle.sheet.proofs.Pairs.{pair_accepted}
 use Rattle.charges.specs.Running.{segment_figures}
-use Rattle.charges.specs.BidSegmentFacts.{segment_arrives, segment_figures_bounded}
+use Rattle.charges.specs.BidSegmentFacts.{segment_figures_bounded}
+use Rattle.charges.proofs.BidSegmentFacts.{segment_arrives}
 use Rattle.charges.proofs.Walks.{pair_low}
 use Rattle.charges.proofs.bid_segment.BidSegmentChargeRule.tell_quantity.Goals as goal
 

@@ -1,5 +1,5 @@
 use Rattle.std.proofs.Common.{rules}
-use Rattle.charges.specs.BidSegmentFacts.{hours_reached, other_bids_low}
+use Rattle.charges.proofs.BidSegmentFacts.{hours_reached, other_bids_low}
 use Rattle.charges.proofs.bid_segment.DayBidsFigures.add.Goals as goal
 
 pub add-requires : goal.add-requires

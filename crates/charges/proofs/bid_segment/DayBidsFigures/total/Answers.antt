@@ -1,5 +1,5 @@
 use Rattle.std.proofs.Common.{rules}
-use Rattle.charges.specs.BidSegmentFacts.{hours_reached, hours_low, other_bids_low}
+use Rattle.charges.proofs.BidSegmentFacts.{hours_reached, hours_low, other_bids_low}
 use Rattle.charges.proofs.bid_segment.DayBidsFigures.total.Goals as goal
 
 pub total-requires : goal.total-requires

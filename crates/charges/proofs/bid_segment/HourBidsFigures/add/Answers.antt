@@ -1,5 +1,5 @@
 use Rattle.std.proofs.Common.{rules}
-use Rattle.charges.specs.BidSegmentFacts.{bids_low}
+use Rattle.charges.proofs.BidSegmentFacts.{bids_low}
 use Rattle.charges.proofs.bid_segment.HourBidsFigures.add.Goals as goal
 
 pub overflow_add-self : goal.overflow_add-self

@@ -1,5 +1,6 @@
 use Rattle.std.proofs.Common.{rules}
-use Rattle.charges.specs.BidSegmentFacts.{bids_low, segments_le}
+use Rattle.charges.specs.BidSegmentFacts.{segments_le}
+use Rattle.charges.proofs.BidSegmentFacts.{bids_low}
 use Rattle.charges.proofs.bid_segment.HourBidsFigures.total.Goals as goal
 
 pub segment_count-requires : goal.segment_count-requires

@@ -1,7 +1,7 @@
 use Rattle.std.proofs.Common.{sym, ap, ◌∙◌, subst, arith, rules}
 use Rattle.charges.specs.Running.{Reached}
-use Rattle.charges.specs.Splits.{inside_reached, reached_total_low}
-use Rattle.charges.specs.Reached.{reached_more, reached_start}
+use Rattle.charges.proofs.Splits.{inside_reached, reached_total_low}
+use Rattle.charges.proofs.Reached.{reached_more, reached_start}
 use Rattle.charges.proofs.group.GroupFigures.add.Goals as goal
 use Rattle.charges.proofs.group.GroupFigures.add.Goals.{then-value-self, else-value-self}
 

@@ -1,5 +1,5 @@
 use Rattle.std.proofs.Common.{rules}
-use Rattle.charges.specs.Splits.{inside_reached, reached_total_low}
+use Rattle.charges.proofs.Splits.{inside_reached, reached_total_low}
 use Rattle.charges.proofs.group.GroupFigures.total.Goals as goal
 
 pub total-requires : goal.total-requires

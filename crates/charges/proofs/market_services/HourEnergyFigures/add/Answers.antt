@@ -1,5 +1,5 @@
 use Rattle.std.proofs.Common.{rules}
-use Rattle.charges.specs.MarketServicesFacts.{energy_reached, balance_reached, awards_low}
+use Rattle.charges.proofs.MarketServicesFacts.{energy_reached, balance_reached, awards_low}
 use Rattle.charges.proofs.market_services.HourEnergyFigures.add.Goals as goal
 
 pub add-requires : goal.add-requires

@@ -1,5 +1,5 @@
 use Rattle.std.proofs.Common.{rules}
-use Rattle.charges.specs.MarketServicesFacts.{energy_reached, balance_reached, total_fits}
+use Rattle.charges.proofs.MarketServicesFacts.{energy_reached, balance_reached, total_fits}
 use Rattle.charges.proofs.market_services.HourEnergyFigures.total.Goals as goal
 
 pub total-requires : goal.total-requires

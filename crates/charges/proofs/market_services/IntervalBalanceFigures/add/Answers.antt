@@ -1,4 +1,4 @@
-use Rattle.charges.specs.MarketServicesFacts.{balance_fits, balance_more}
+use Rattle.charges.proofs.MarketServicesFacts.{balance_fits, balance_more}
 use Rattle.charges.proofs.market_services.IntervalBalanceFigures.add.Goals as goal
 
 pub overflow_add-self : goal.overflow_add-self

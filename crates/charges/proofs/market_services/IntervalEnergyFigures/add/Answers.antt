@@ -1,5 +1,5 @@
 use Rattle.std.proofs.Common.{arith}
-use Rattle.charges.specs.MarketServicesFacts.{day_ahead_fits, hasp_fits, real_time_fits, day_ahead_more, hasp_more, real_time_more}
+use Rattle.charges.proofs.MarketServicesFacts.{day_ahead_fits, hasp_fits, real_time_fits, day_ahead_more, hasp_more, real_time_more}
 use Rattle.charges.proofs.market_services.IntervalEnergyFigures.add.Goals as goal
 
 pub overflow_add-self : goal.overflow_add-self

@@ -1,5 +1,5 @@
 use Rattle.std.proofs.Common.{rules}
-use Rattle.charges.specs.MarketServicesFacts.{two_low, three_low}
+use Rattle.charges.proofs.MarketServicesFacts.{two_low, three_low}
 use Rattle.charges.proofs.market_services.IntervalEnergyFigures.total.Goals as goal
 
 pub overflow_add-result : goal.overflow_add-result

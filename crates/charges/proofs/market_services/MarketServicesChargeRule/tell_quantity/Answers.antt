@@ -3,8 +3,7 @@ use Rattle.sheet.specs.Rows.{pair_rows}
 use Rattle.sheet.specs.Sheets.{sheet_rows}
 use Rattle.sheet.proofs.Pairs.{pair_accepted}
 use Rattle.charges.specs.Running.{market_figures}
-use Rattle.charges.specs.MarketServicesFacts.{market_figures_bounded}
-use Rattle.charges.proofs.MarketServicesHours.{market_arrives}
+use Rattle.charges.proofs.MarketServicesFacts.{market_figures_bounded, market_arrives}
 use Rattle.charges.proofs.Walks.{pair_low}
 use Rattle.charges.proofs.market_services.MarketServicesChargeRule.tell_quantity.Goals as goal
 

@@ -1,4 +1,4 @@
-use Rattle.charges.specs.SystemOperationsFacts.{metered_fits, balance_fits, metered_more, balance_more}
+use Rattle.charges.proofs.SystemOperationsFacts.{metered_fits, balance_fits, metered_more, balance_more}
 use Rattle.charges.proofs.system_operations.MeterFigures.add.Goals as goal
 
 pub overflow_add-self : goal.overflow_add-self

@@ -1,6 +1,6 @@
 use Rattle.std.proofs.Common.{◌∙◌, arith}
-use Rattle.charges.specs.SystemOperationsFacts.{metered_low, balance_low}
-use Rattle.charges.specs.Reached.{less_fits, less_is}
+use Rattle.charges.proofs.SystemOperationsFacts.{metered_low, balance_low}
+use Rattle.charges.proofs.Reached.{less_fits, less_is}
 use Rattle.charges.proofs.system_operations.MeterFigures.total.Goals as goal
 
 pub overflow_sub-self : goal.overflow_sub-self

@@ -4,7 +4,7 @@ use Rattle.sheet.specs.Sheets.{sheet_rows}
 use Rattle.sheet.proofs.Pairs.{pair_accepted}
 use Rattle.charges.specs.Laws.{PartIsByte}
 use Rattle.charges.specs.Running.{system_figures}
-use Rattle.charges.specs.SystemOperationsFacts.{system_arrives, system_figures_bounded}
+use Rattle.charges.proofs.SystemOperationsFacts.{system_arrives, system_figures_bounded}
 use Rattle.charges.proofs.Walks.{all_pair, pair_low}
 use Rattle.charges.proofs.system_operations.SystemOperationsChargeRule.tell_quantity.Goals as goal
 

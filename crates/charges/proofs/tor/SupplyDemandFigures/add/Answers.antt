@@ -1,5 +1,5 @@
 use Rattle.std.proofs.Common.{rules}
-use Rattle.charges.specs.TorFacts.{supply_low, demand_low}
+use Rattle.charges.proofs.TorFacts.{supply_low, demand_low}
 use Rattle.charges.proofs.tor.SupplyDemandFigures.add.Goals as goal
 
 pub overflow_add-self : goal.overflow_add-self

@@ -3,7 +3,8 @@ use Rattle.std.proofs.lemmas.Bool.{cond-true, cond-false, eq-eqb, ne_eqb}
 use Rattle.sheet.specs.Rows.{pair_rows}
 use Rattle.sheet.specs.Sheets.{sheet_rows}
 use Rattle.charges.specs.Running.{run, tor_figures}
-use Rattle.charges.specs.TorFacts.{tor_arrives, tor_figures_bounded}
+use Rattle.charges.specs.TorFacts.{tor_figures_bounded}
+use Rattle.charges.proofs.TorFacts.{tor_arrives}
 use Rattle.charges.proofs.Walks.{pair_low}
 use Rattle.charges.proofs.tor.TorChargeRule.tell_quantity.Goals as goal
 

@@ -2,7 +2,8 @@ use Rattle.std.proofs.Common.{◌*◌, ap, ◌∙◌, rules}
 use Rattle.sheet.specs.Rows.{pair_rows}
 use Rattle.sheet.specs.Sheets.{sheet_rows}
 use Rattle.charges.specs.Running.{trade_figures}
-use Rattle.charges.specs.TradeFeeFacts.{trade_arrives, trade_figures_bounded}
+use Rattle.charges.specs.TradeFeeFacts.{trade_figures_bounded}
+use Rattle.charges.proofs.TradeFeeFacts.{trade_arrives}
 use Rattle.charges.proofs.Walks.{pair_low}
 use Rattle.charges.proofs.trade_fee.TradeFeeChargeRule.tell_quantity.Goals as goal
 

@@ -1,7 +1,7 @@
 use Rattle.std.proofs.Common.{rules}
 use Rattle.charges.specs.Running.{trade_figures}
 use Rattle.charges.specs.TradeFeeFacts.{trade_figures_bounded}
-use Rattle.charges.specs.Reached.{reached_low}
+use Rattle.charges.proofs.Reached.{reached_low}
 use Rattle.charges.proofs.trade_fee.TradeSidesFigures.add.Goals as goal
 
 pub overflow_add-self : goal.overflow_add-self

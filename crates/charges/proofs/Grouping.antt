@@ -8,8 +8,9 @@ use Rattle.sheet.specs.declared.row.Row.{Row}
 use Rattle.charges.specs.Sums.{over}
 use Rattle.charges.specs.Charges.{at}
 use Rattle.charges.specs.Running.{Running, run, grouped}
-use Rattle.charges.specs.Order.{Pairwise}
-use Rattle.charges.specs.SumsLemmas.{over_change, over_none, over_same_from}
+use Rattle.charges.proofs.Order.{Pairwise}
+use Rattle.charges.specs.SumsLemmas.{over_none}
+use Rattle.charges.proofs.Sums.{over_change, over_same_from}
 
 at_none : (field : Row → ℕ) (g : ℕ) (rs : List Row) → AllByRecursion (λ r. g < field r) rs → at field g rs ≡ []
 at_none field g [] h = refl

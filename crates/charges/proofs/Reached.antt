@@ -3,18 +3,13 @@ use Rattle.std.specs.Prelude.{◌≡◌, ℕ, ◌*◌, ◌≤◌, Bool, List, []
 use Rattle.std.proofs.Common.{arith, mul-le-mul_left, ap, sym, subst, ◌∙◌, to_z, of_z}
 use borrow.Author.Differences.{abs_is}
 use Rattle.std.specs.Int.{w32, w64}
-use Rattle.std.specs.List.{AllByRecursion}
 use Rattle.std.proofs.lemmas.Int.{ints, to_z-of_z}
 use Rattle.sheet.specs.declared.row.Row.{Row}
 use Rattle.sheet.specs.Sheets.{Passes}
 use Rattle.sheet.proofs.Pairs.{quantity_range}
-use Rattle.charges.specs.Running.{Running, after, run, Reached, counting_rows, adding_up, netting}
+use Rattle.charges.specs.Running.{Running, FiguresBounded, after, Reached, counting_rows, adding_up, netting}
 use Rattle.charges.specs.Runs.{summed, counted, netted}
 use Rattle.charges.specs.Sizes.{size, net_low, gross_low, count_low}
-
--- figures that come to at most so much for each row that passes
-abbrev pub FiguresBounded : {S : Type 0} → Running S → ℕ → Type 0
-FiguresBounded f most = (rs : List Row) → AllByRecursion Passes rs → run f rs ≤ most * length rs
 
 pub reached_low : {S : Type 0} (f : Running S) (most n : ℕ) (s : S) → FiguresBounded f most → Reached f n s → f.total s ≤ most * n
 reached_low f most n s b h =
