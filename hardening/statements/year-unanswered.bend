@@ -2,7 +2,7 @@
 crates: journal
 edit: crates/journal/must-fail/answers-not-written.edit
 file: crates/journal/src/kept_year.rt
-old: map (told book_fault) answers.new ≡ written (map (told book_fault) answers.old) (year_answers (open_refusal (record { demands = demands.now; flags = flags.now })) (record { demands = demands.now; flags = flags.now }) (map (call_of R.code R.quantity) entries.now))
+old: map (told book_fault) answers.new ≡ written (map (told book_fault) answers.old) (year_answers (open_refusal (given terms.entry)) (given terms.entry) (map (call_of R.code R.quantity) entries.now))
 new: Unit {0}
 file: crates/journal/proofs/kept_year/keep_year/Answers.antt
 old: answered = answers_refused t calls (book_of c.args.book.now) _ refused _;

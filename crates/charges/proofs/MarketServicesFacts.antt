@@ -1,6 +1,10 @@
 -- Market Services: its running figures arrive at the charge, which keeps within its bound, and how large they are.
 use Rattle.std.specs.Prelude.{◌≡◌, ℕ, ◌+◌, ◌-◌, ◌*◌, ◌≤◌, List, ◌+ℤ◌, FitsSigned, unsigned_abs}
-use Rattle.std.proofs.Common.{arith, ap₂, sym, ◌∙◌, to_z, of_z}
+use Rattle.std.proofs.Common.{ℤ, true, eqb, ◌⊎◌, inl, inr, subst, arith, ap₂, sym, ◌∙◌, to_z, of_z}
+use Rattle.std.proofs.lemmas.Bool.{eqb-true}
+use Rattle.sheet.specs.declared.kind.Kind.{Kind}
+use Rattle.sheet.specs.declared.kind.Kind.TheVariants.{OptimalEnergy, RerateEnergy, MinimumLoadEnergy, SelfScheduleEnergy, PumpingEnergy}
+use Rattle.sheet.specs.Kinds.{is_kind}
 use Rattle.std.proofs.Math.Path.{refl, ap}
 use Rattle.std.specs.Int.{w64}
 use Rattle.std.proofs.lemmas.Bool.{ne_eqb, le-leb}
@@ -15,7 +19,7 @@ use Rattle.charges.specs.Charges.{from_to, energy, tor_balance, hour_kwh, market
 use Rattle.charges.specs.Running.{run, Reached, adding_up, interval_by_interval, energy_figures, balance_figures, hour_figures, market_figures, FiguresBounded}
 use Rattle.charges.specs.Runs.{summed}
 use Rattle.charges.specs.Sizes.{Under, size}
-use Rattle.charges.proofs.Reached.{reached_low, reached_part, gross_reached, abs_back, added, added_fits, added_is}
+use Rattle.charges.proofs.Reached.{widened, reached_low, reached_part, gross_reached, abs_back, added, added_fits, added_is}
 use Rattle.charges.specs.Splits.{group_bounded}
 use Rattle.charges.specs.MarketServicesFacts.{energy_run, energy_figures_bounded, balance_run, balance_figures_bounded, hour_parts, hour_figures_bounded, worth, energy_and_awards_under, market_bounded_by}
 use Rattle.charges.proofs.Order.{InOrder, pair_in_order}
@@ -35,24 +39,36 @@ module _ (n : ℕ) (a : IntervalEnergy) (h : Reached energy_figures n a) where
   energy_low = reached_low energy_figures 4000000 n a energy_figures_bounded h
 
 -- after one row more, as the code adds it
-module _ (a : IntervalEnergy) (r : Row) (h : Reached energy_figures 2047 a) (k : Passes r) where
-  pub day_ahead_fits : FitsSigned w64 (added a.day_ahead r.quantity)
-  day_ahead_fits = added_fits a.day_ahead r (omega (arith, energy_low 2047 a h)) k
+module _ (a : IntervalEnergy) (r : Row) (h : Reached energy_figures 2047 a) (k : Passes r) (x : ℤ) (is : x ≡ widened r.quantity) where
+  pub day_ahead_fits : FitsSigned w64 (added a.day_ahead x)
+  day_ahead_fits = added_fits a.day_ahead r (omega (arith, energy_low 2047 a h)) k x is
 
-  pub hasp_fits : FitsSigned w64 (added a.hasp r.quantity)
-  hasp_fits = added_fits a.hasp r (omega (arith, energy_low 2047 a h)) k
+  pub hasp_fits : FitsSigned w64 (added a.hasp x)
+  hasp_fits = added_fits a.hasp r (omega (arith, energy_low 2047 a h)) k x is
 
-  pub real_time_fits : FitsSigned w64 (added a.real_time r.quantity)
-  real_time_fits = added_fits a.real_time r (omega (arith, energy_low 2047 a h)) k
+  pub real_time_fits : FitsSigned w64 (added a.real_time x)
+  real_time_fits = added_fits a.real_time r (omega (arith, energy_low 2047 a h)) k x is
 
-  pub day_ahead_more : r.key.kind ≡ 1 → record { day_ahead = to_z w64 (of_z w64 (added a.day_ahead r.quantity)); hasp = a.hasp; real_time = a.real_time } ≡ energy_figures.add a r
-  day_ahead_more e = ap (λ z. record { day_ahead = z; hasp = a.hasp; real_time = a.real_time }) (added_is a.day_ahead r (omega (arith, energy_low 2047 a h)) k) ∙ sym (energy_at_1 a r e)
+  pub day_ahead_more : r.key.kind ≡ 1 → record { day_ahead = to_z w64 (of_z w64 (added a.day_ahead x)); hasp = a.hasp; real_time = a.real_time } ≡ energy_figures.add a r
+  day_ahead_more e = ap (λ z. record { day_ahead = z; hasp = a.hasp; real_time = a.real_time }) (added_is a.day_ahead r (omega (arith, energy_low 2047 a h)) k x is) ∙ sym (energy_at_1 a r e)
 
-  pub hasp_more : r.key.kind ≡ 2 → record { day_ahead = a.day_ahead; hasp = to_z w64 (of_z w64 (added a.hasp r.quantity)); real_time = a.real_time } ≡ energy_figures.add a r
-  hasp_more e = ap (λ z. record { day_ahead = a.day_ahead; hasp = z; real_time = a.real_time }) (added_is a.hasp r (omega (arith, energy_low 2047 a h)) k) ∙ sym (energy_at_2 a r e)
+  pub hasp_more : r.key.kind ≡ 2 → record { day_ahead = a.day_ahead; hasp = to_z w64 (of_z w64 (added a.hasp x)); real_time = a.real_time } ≡ energy_figures.add a r
+  hasp_more e = ap (λ z. record { day_ahead = a.day_ahead; hasp = z; real_time = a.real_time }) (added_is a.hasp r (omega (arith, energy_low 2047 a h)) k x is) ∙ sym (energy_at_2 a r e)
 
-  pub real_time_more : 3 ≤ r.key.kind → r.key.kind ≤ 7 → record { day_ahead = a.day_ahead; hasp = a.hasp; real_time = to_z w64 (of_z w64 (added a.real_time r.quantity)) } ≡ energy_figures.add a r
-  real_time_more l u = ap (λ z. record { day_ahead = a.day_ahead; hasp = a.hasp; real_time = z }) (added_is a.real_time r (omega (arith, energy_low 2047 a h)) k) ∙ sym (energy_at_3 a r l u)
+  pub real_time_more : 3 ≤ r.key.kind → r.key.kind ≤ 7 → record { day_ahead = a.day_ahead; hasp = a.hasp; real_time = to_z w64 (of_z w64 (added a.real_time x)) } ≡ energy_figures.add a r
+  real_time_more l u = ap (λ z. record { day_ahead = a.day_ahead; hasp = a.hasp; real_time = z }) (added_is a.real_time r (omega (arith, energy_low 2047 a h)) k x is) ∙ sym (energy_at_3 a r l u)
+
+-- the kinds of real-time energy
+module _ (byte : ℕ) where
+  within_3_to_7 : (n : ℕ) → eqb byte n ≡ true → 3 ≤ n → n ≤ 7 → (3 ≤ byte) × (byte ≤ 7)
+  within_3_to_7 n e l u = let is = eqb-true byte n e in (omega arith, omega arith)
+
+  pub real_time_kind : (kind : Kind) → is_kind kind byte ≡ true → (kind ≡ OptimalEnergy) ⊎ ((kind ≡ RerateEnergy) ⊎ ((kind ≡ MinimumLoadEnergy) ⊎ ((kind ≡ SelfScheduleEnergy) ⊎ (kind ≡ PumpingEnergy)))) → (3 ≤ byte) × (byte ≤ 7)
+  real_time_kind kind e (inl is) = within_3_to_7 3 (subst (λ one. is_kind one byte ≡ true) is e) (omega arith) (omega arith)
+  real_time_kind kind e (inr (inl is)) = within_3_to_7 4 (subst (λ one. is_kind one byte ≡ true) is e) (omega arith) (omega arith)
+  real_time_kind kind e (inr (inr (inl is))) = within_3_to_7 5 (subst (λ one. is_kind one byte ≡ true) is e) (omega arith) (omega arith)
+  real_time_kind kind e (inr (inr (inr (inl is)))) = within_3_to_7 6 (subst (λ one. is_kind one byte ≡ true) is e) (omega arith) (omega arith)
+  real_time_kind kind e (inr (inr (inr (inr is)))) = within_3_to_7 7 (subst (λ one. is_kind one byte ≡ true) is e) (omega arith) (omega arith)
 
 -- the absolute values that the code adds
 module _ (a : IntervalEnergy) (h : Reached energy_figures 2048 a) where
@@ -67,15 +83,15 @@ module _ (a : IntervalEnergy) (h : Reached energy_figures 2048 a) where
 balance_at_8 : (a : IntervalBalance) (r : Row) → r.key.kind ≡ 8 → balance_figures.add a r ≡ record { net = a.net +ℤ r.quantity }
 balance_at_8 a r e = rw e
 
-module _ (a : IntervalBalance) (r : Row) (h : Reached balance_figures 2047 a) (k : Passes r) where
+module _ (a : IntervalBalance) (r : Row) (h : Reached balance_figures 2047 a) (k : Passes r) (x : ℤ) (is : x ≡ widened r.quantity) where
   balance_low : unsigned_abs a.net ≤ 8192000000
   balance_low = let l = reached_low balance_figures 4000000 2047 a balance_figures_bounded h in omega arith
 
-  pub balance_fits : FitsSigned w64 (added a.net r.quantity)
-  balance_fits = added_fits a.net r balance_low k
+  pub balance_fits : FitsSigned w64 (added a.net x)
+  balance_fits = added_fits a.net r balance_low k x is
 
-  pub balance_more : r.key.kind ≡ 8 → record { net = to_z w64 (of_z w64 (added a.net r.quantity)) } ≡ balance_figures.add a r
-  balance_more e = ap (λ z. record { net = z }) (added_is a.net r balance_low k) ∙ sym (balance_at_8 a r e)
+  pub balance_more : r.key.kind ≡ 8 → record { net = to_z w64 (of_z w64 (added a.net x)) } ≡ balance_figures.add a r
+  balance_more e = ap (λ z. record { net = z }) (added_is a.net r balance_low k x is) ∙ sym (balance_at_8 a r e)
 
 module _ (n : ℕ) (a : HourEnergy) (h : Reached hour_figures n a) where
   pub energy_reached : Reached (interval_by_interval energy_figures) n a.energy

@@ -4,12 +4,12 @@ use Rattle.std.proofs.Common.{arith, sym, ◌∙◌, inl, inr}
 use Rattle.std.specs.List.{AllByRecursion}
 use Rattle.std.proofs.ByRecursion.{All-weaker, all_kept_by, kept_by_passes}
 use Rattle.std.proofs.lemmas.Bool.{cases_Bool, eqb-true}
+use Rattle.sheet.specs.Rows.{PartIsByte}
 use Rattle.sheet.specs.declared.row.Row.{Row}
 use Rattle.sheet.specs.Questions.{below, key_bytes}
 use Rattle.sheet.specs.Sheets.{Ascending, OfPair, PairRows}
 use Rattle.sheet.proofs.Pairs.{below_cases}
 use Rattle.charges.specs.Charges.{at}
-use Rattle.charges.specs.Laws.{PartIsByte}
 
 below_first : (x y : ℕ) (xs ys : List ℕ) → below (x ∷ xs) (y ∷ ys) ≡ true → x ≤ y
 below_first x y xs ys h = elim (below_cases x y xs ys h) [ inl e ↦ omega arith | inr e ↦ let z = e.0 in omega arith ]

@@ -46,11 +46,15 @@ net_fits a h = grind (arith, ints, abs_is a)
 pub abs_back : (a : ℤ) → unsigned_abs a ≤ 8192000000 → unsigned_abs (to_z w64 (of_z w64 a)) ≡ unsigned_abs a
 abs_back a h = ap unsigned_abs (to_z-of_z w64 a (net_fits a h))
 
--- a net sum and a row's quantity
+-- a net sum and what is added to it
 abbrev pub added : ℤ → ℤ → ℤ
-added a q = to_z w64 (of_z w64 a) +ℤ to_z w64 (of_z w64 (to_z w32 (of_z w32 q)))
+added a x = to_z w64 (of_z w64 a) +ℤ to_z w64 (of_z w64 x)
 
-module _ (a : ℤ) (r : Row) (h : unsigned_abs a ≤ 8192000000) (k : Passes r) where
+-- x is the row's quantity, as the code widens it
+abbrev pub widened : ℤ → ℤ
+widened q = to_z w32 (of_z w32 q)
+
+module _ (a : ℤ) (r : Row) (h : unsigned_abs a ≤ 8192000000) (k : Passes r) (x : ℤ) (is : x ≡ widened r.quantity) where
   abbrev q : ℤ
   q = r.quantity
 
@@ -63,11 +67,11 @@ module _ (a : ℤ) (r : Row) (h : unsigned_abs a ≤ 8192000000) (k : Passes r) 
   sum_fits : FitsSigned w64 (a +ℤ q)
   sum_fits = let l = quantity_range r k in grind (arith, ints, abs_is a, abs_is q)
 
-  pub added_fits : FitsSigned w64 (added a q)
-  added_fits = rw (to_z-of_z w64 a (net_fits a h), to_z-of_z w32 q row_fits, to_z-of_z w64 q wide_fits) sum_fits
+  pub added_fits : FitsSigned w64 (added a x)
+  added_fits = rw (is, to_z-of_z w64 a (net_fits a h), to_z-of_z w32 q row_fits, to_z-of_z w64 q wide_fits) sum_fits
 
-  pub added_is : to_z w64 (of_z w64 (added a q)) ≡ a +ℤ q
-  added_is = rw (to_z-of_z w64 a (net_fits a h), to_z-of_z w32 q row_fits, to_z-of_z w64 q wide_fits) (to_z-of_z w64 (a +ℤ q) sum_fits)
+  pub added_is : to_z w64 (of_z w64 (added a x)) ≡ a +ℤ q
+  added_is = rw (is, to_z-of_z w64 a (net_fits a h), to_z-of_z w32 q row_fits, to_z-of_z w64 q wide_fits) (to_z-of_z w64 (a +ℤ q) sum_fits)
 
 -- the difference of two net sums
 module _ (a b : ℤ) (h : unsigned_abs a ≤ 8192000000) (k : unsigned_abs b ≤ 8192000000) where

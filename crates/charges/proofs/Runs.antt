@@ -3,12 +3,12 @@ use Rattle.std.specs.Prelude.{◌≡◌, ℕ, ◌+◌, ◌<◌, ◌≤◌, List,
 use Rattle.std.proofs.Common.{arith}
 use Rattle.std.specs.List.{range_with_len}
 use Rattle.std.proofs.ByRecursion.{All-weaker}
+use Rattle.sheet.specs.Rows.{PartIsByte}
 use Rattle.sheet.specs.declared.row.Row.{Row}
 use Rattle.sheet.specs.Sheets.{Passes}
 use Rattle.sheet.proofs.Pairs.{key_ranges}
 use Rattle.charges.specs.Sums.{over}
 use Rattle.charges.specs.Charges.{at, by_hour, by_interval, by_part}
-use Rattle.charges.specs.Laws.{PartIsByte}
 use Rattle.charges.specs.Running.{Running, run, grouped, hour_by_hour, interval_by_interval, part_by_part}
 use Rattle.charges.specs.declared.group.ByHour.{ByHour}
 use Rattle.charges.specs.declared.group.ByInterval.{ByInterval}

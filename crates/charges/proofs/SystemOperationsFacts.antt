@@ -1,20 +1,20 @@
 -- System Operations: its running figures arrive, and how large they are.
 use Rattle.std.specs.Prelude.{◌≡◌, ℕ, ◌*◌, ◌≤◌, List, ◌+ℤ◌, FitsSigned, unsigned_abs, refl}
-use Rattle.std.proofs.Common.{arith, ap, sym, ◌∙◌, to_z, of_z}
+use Rattle.std.proofs.Common.{ℤ, arith, ap, sym, ◌∙◌, to_z, of_z}
 use Rattle.std.specs.Int.{w64}
 use Rattle.std.specs.List.{AllByRecursion}
+use Rattle.sheet.specs.Rows.{PartIsByte}
 use Rattle.sheet.specs.declared.row.Row.{Row}
 use Rattle.sheet.specs.Sheets.{OfPair, PairRows, Passes}
 use Rattle.charges.specs.declared.system_operations.Meter.{Meter}
 use Rattle.charges.specs.declared.group.ByHour.{ByHour}
 use Rattle.charges.specs.declared.group.ByInterval.{ByInterval}
 use Rattle.charges.specs.declared.group.ByPart.{ByPart}
-use Rattle.charges.specs.Laws.{PartIsByte}
 use Rattle.charges.specs.Charges.{only, by_interval, by_part, metered_less_balance, system_operations}
 use Rattle.charges.specs.Running.{run, Reached, netting, interval_by_interval, part_by_part, meter_figures, system_figures, FiguresBounded}
 use Rattle.charges.proofs.Order.{parts_in_order}
 use Rattle.charges.proofs.Runs.{by_hour_run, by_interval_run, by_part_run}
-use Rattle.charges.proofs.Reached.{reached_part, net_reached, added, added_fits, added_is}
+use Rattle.charges.proofs.Reached.{widened, reached_part, net_reached, added, added_fits, added_is}
 use Rattle.charges.specs.Splits.{group_bounded}
 use Rattle.charges.specs.SystemOperationsFacts.{parts, meter_run, meter_figures_bounded}
 
@@ -32,18 +32,18 @@ at_8 : (a : Meter) (r : Row) → r.key.kind ≡ 8 → meter_figures.add a r ≡ 
 at_8 a r e = rw e
 
 -- after one row more, as the code adds it
-module _ (a : Meter) (r : Row) (h : Reached meter_figures 2047 a) (k : Passes r) where
-  pub metered_fits : FitsSigned w64 (added a.metered r.quantity)
-  metered_fits = added_fits a.metered r (omega (arith, metered_low 2047 a h)) k
+module _ (a : Meter) (r : Row) (h : Reached meter_figures 2047 a) (k : Passes r) (x : ℤ) (is : x ≡ widened r.quantity) where
+  pub metered_fits : FitsSigned w64 (added a.metered x)
+  metered_fits = added_fits a.metered r (omega (arith, metered_low 2047 a h)) k x is
 
-  pub balance_fits : FitsSigned w64 (added a.balance r.quantity)
-  balance_fits = added_fits a.balance r (omega (arith, balance_low 2047 a h)) k
+  pub balance_fits : FitsSigned w64 (added a.balance x)
+  balance_fits = added_fits a.balance r (omega (arith, balance_low 2047 a h)) k x is
 
-  pub metered_more : r.key.kind ≡ 20 → record { metered = to_z w64 (of_z w64 (added a.metered r.quantity)); balance = a.balance } ≡ meter_figures.add a r
-  metered_more e = ap (λ z. record { metered = z; balance = a.balance }) (added_is a.metered r (omega (arith, metered_low 2047 a h)) k) ∙ sym (at_20 a r e)
+  pub metered_more : r.key.kind ≡ 20 → record { metered = to_z w64 (of_z w64 (added a.metered x)); balance = a.balance } ≡ meter_figures.add a r
+  metered_more e = ap (λ z. record { metered = z; balance = a.balance }) (added_is a.metered r (omega (arith, metered_low 2047 a h)) k x is) ∙ sym (at_20 a r e)
 
-  pub balance_more : r.key.kind ≡ 8 → record { metered = a.metered; balance = to_z w64 (of_z w64 (added a.balance r.quantity)) } ≡ meter_figures.add a r
-  balance_more e = ap (λ z. record { metered = a.metered; balance = z }) (added_is a.balance r (omega (arith, balance_low 2047 a h)) k) ∙ sym (at_8 a r e)
+  pub balance_more : r.key.kind ≡ 8 → record { metered = a.metered; balance = to_z w64 (of_z w64 (added a.balance x)) } ≡ meter_figures.add a r
+  balance_more e = ap (λ z. record { metered = a.metered; balance = z }) (added_is a.balance r (omega (arith, balance_low 2047 a h)) k x is) ∙ sym (at_8 a r e)
 
 pub system_arrives : (coordinator resource : ℕ) (rs : List Row) → PairRows coordinator resource rs → AllByRecursion PartIsByte rs → 100 * run system_figures rs ≡ system_operations coordinator resource rs
 unfolding system_operations

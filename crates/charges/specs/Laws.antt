@@ -1,15 +1,12 @@
 -- What is promised of the five charges: the running figures arrive at them, and they are bounded.
-use Rattle.std.specs.Prelude.{◌≡◌, ℕ, ◌*◌, ◌≤◌, cond, List, ◌==◌}
+use Rattle.std.specs.Prelude.{◌≡◌, ℕ, ◌*◌, cond, List, ◌==◌}
 use Rattle.std.specs.List.{AllByRecursion}
 use Rattle.sheet.specs.declared.row.Row.{Row}
+use Rattle.sheet.specs.Rows.{PartIsByte}
 use Rattle.sheet.specs.Sheets.{PairRows}
 use Rattle.charges.specs.Rules.{Bounded}
 use Rattle.charges.specs.Charges.{market_services, system_operations, bid_segment, tor, trade_fee}
 use Rattle.charges.specs.Running.{run, market_figures, system_figures, segment_figures, tor_figures, trade_figures}
-
--- the part is a byte, as it is on every sheet
-abbrev pub PartIsByte : Row → Type 0
-PartIsByte r = r.key.part ≤ 255
 
 -- on the rows of any pair the running figures come to the charge
 pub record FiguresArrive : Type 0 where

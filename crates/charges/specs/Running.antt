@@ -1,6 +1,7 @@
 -- Running figures over rows: where they start, one row more, what they come to. Those of each charge.
 use Rattle.std.specs.Prelude.{◌≡◌, ℕ, ◌+◌, ◌-◌, ◌*◌, ◌≤◌, min, Bool, cond, List, length, take, ℤ, pos, ◌+ℤ◌, ◌-ℤ◌, fold, ◌==◌, unsigned_abs}
 use Rattle.std.specs.List.{AllByRecursion}
+use Rattle.sheet.specs.declared.pair.Pair.{Pair}
 use Rattle.sheet.specs.declared.row.Row.{Row}
 use Rattle.sheet.specs.Rows.{pair_rows}
 use Rattle.sheet.specs.Sheets.{Passes}
@@ -44,9 +45,9 @@ abbrev pub FiguresBounded : {S : Type 0} → Running S → ℕ → Type 0
 FiguresBounded f most = (rs : List Row) → AllByRecursion Passes rs → run f rs ≤ most * length rs
 
 -- the walk of a pair after the first n rows of a sheet: its figures are those of the pair's rows among them
-abbrev pub walk_at : {S : Type 0} → Running S → ℕ → ℕ → List Row → ℕ → Walk S
-walk_at f coordinator resource rs n =
-    record { figures = after f (pair_rows coordinator resource (take n rs)); coordinator = coordinator; resource = resource; next = n }
+abbrev pub walk_at : {S : Type 0} → Running S → Pair → List Row → ℕ → Walk S
+walk_at f pair rs n =
+    record { figures = after f (pair_rows pair.coordinator pair.resource (take n rs)); pair = pair; next = n }
 
 -- a sum over the rows of these kinds
 abbrev pub summing : (Row → Bool) → (Row → ℕ) → Running ℕ

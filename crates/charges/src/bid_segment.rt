@@ -9,11 +9,13 @@ use crate::figures::Figures;
 use crate::group::{ByHour, Group};
 use crate::rule::ChargeRule;
 use crate::walk::total_of;
+use sheet::kind::Kind;
+use sheet::pair::Pair;
 use sheet::row::Row;
 use sheet::sheet::Sheet;
 
 // Bids and self-schedules of an hour that are not zero, in the day-ahead and the real-time market.
-#[derive(Clone, Copy)]
+#[derive(Clone, Copy, Default)]
 pub struct HourBids {
     pub bids: u64,
     pub schedules: u64,
@@ -22,7 +24,7 @@ pub struct HourBids {
 }
 
 // The hours' bids, and the ancillary and virtual ones of the day.
-#[derive(Drop)]
+#[derive(Drop, Default)]
 pub struct DayBids {
     pub hours: Group<HourBids, ByHour>,
     pub other_bids: u64,
@@ -45,28 +47,21 @@ impl Figures for HourBids {
 
     ghost most = { 4 };
 
+    ghost starts = { Prim.search rules };
+
     ghost low = { Prim.search rules };
 
     ghost bounded = { λ rs h. bid_figures_bounded rs h };
-
-    fn start() -> Self {
-        HourBids {
-            bids: 0,
-            schedules: 0,
-            real_time_bids: 0,
-            real_time_schedules: 0,
-        }
-    }
 
     fn add(&mut self, row: Row) {
         if row.quantity == 0 {
             return;
         }
-        match row.key.kind {
-            30 => self.bids += 1,
-            31 => self.schedules += 1,
-            32 => self.real_time_bids += 1,
-            33 => self.real_time_schedules += 1,
+        match row.kind() {
+            Kind::DayAheadBid => self.bids += 1,
+            Kind::DayAheadSchedule => self.schedules += 1,
+            Kind::RealTimeBid => self.real_time_bids += 1,
+            Kind::RealTimeSchedule => self.real_time_schedules += 1,
             _ => {}
         }
     }
@@ -82,20 +77,15 @@ impl Figures for DayBids {
 
     ghost most = { 5 };
 
+    ghost starts = { Prim.search rules };
+
     ghost low = { Prim.search rules };
 
     ghost bounded = { λ rs h. segment_figures_bounded rs h };
 
-    fn start() -> Self {
-        DayBids {
-            hours: <Group<_, _> as Figures>::start(),
-            other_bids: 0,
-        }
-    }
-
     fn add(&mut self, row: Row) {
         self.hours.add(row);
-        if row.key.kind >= 34 && row.key.kind <= 35 && row.quantity != 0 {
+        if matches!(row.kind(), Kind::AncillaryBid | Kind::VirtualBid) && row.quantity != 0 {
             self.other_bids += 1;
         }
     }
@@ -121,7 +111,7 @@ impl ChargeRule for BidSegment {
         2
     }
 
-    fn tell_quantity(&self, sheet: Sheet<'_>, coordinator: usize, resource: u8) -> u64 {
-        100_000 * total_of::<DayBids>(sheet, coordinator, resource)
+    fn tell_quantity(&self, sheet: Sheet<'_>, pair: Pair) -> u64 {
+        100_000 * total_of::<DayBids>(sheet, pair)
     }
 }

@@ -1,4 +1,4 @@
-// Running figures over rows: a start, one row more, and what they come to.
+// Running figures over rows: their default is the start; one row more, and what they come to.
 ghost use Rattle.std.specs.Prelude.{◌≡◌, ℕ, ◌*◌, ◌≤◌, List, length};
 ghost use Rattle.charges.specs.Running.{Reached, Running, run};
 ghost use Rattle.sheet.specs.Sheets.{Passes};
@@ -7,14 +7,11 @@ ghost use Rattle.std.specs.List.{AllByRecursion};
 
 use sheet::row::Row;
 
-pub trait Figures: Sized {
+pub trait Figures: Default {
     ghost running: { Running Self };
 
     // what a row adds at most
     ghost most: { ℕ };
-
-    fn start() -> Self
-        ensures { result ≡ running.start };
 
     fn add(&mut self, row: Row)
         requires reached { Reached running 2047 self.old }
@@ -24,6 +21,8 @@ pub trait Figures: Sized {
     fn total(&self) -> u64
         requires { Reached running 2048 self.now }
         ensures { result ≡ running.total self.now };
+
+    ghost starts: { (s : Self) → Self.is_default s → s ≡ running.start };
 
     ghost low: { most ≤ 100000000 };
 

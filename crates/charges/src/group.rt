@@ -27,85 +27,84 @@ pub struct ByInterval {}
 #[derive(Clone, Copy)]
 pub struct ByPart {}
 
-// A field of the key, and where it starts.
+// A field of the key, and its least value.
 pub trait Field {
     ghost of: { Row → ℕ };
 
-    ghost least: { ℕ };
+    ghost LEAST: { ℕ };
+
+    const LEAST: u8;
 
     fn value(row: Row) -> u8
         ensures { result ≡ of row };
-
-    fn least_value() -> u8
-        ensures { result ≡ least };
 }
 
 impl Field for ByHour {
     ghost of = { λ r. r.key.hour };
 
-    ghost least = { 1 };
+    ghost LEAST = { 1 };
+
+    const LEAST: u8 = 1;
 
     fn value(row: Row) -> u8 {
         row.key.hour
-    }
-
-    fn least_value() -> u8 {
-        1
     }
 }
 
 impl Field for ByInterval {
     ghost of = { λ r. r.key.interval };
 
-    ghost least = { 0 };
+    ghost LEAST = { 0 };
+
+    const LEAST: u8 = 0;
 
     fn value(row: Row) -> u8 {
         row.key.interval
-    }
-
-    fn least_value() -> u8 {
-        0
     }
 }
 
 impl Field for ByPart {
     ghost of = { λ r. r.key.part };
 
-    ghost least = { 0 };
+    ghost LEAST = { 0 };
+
+    const LEAST: u8 = 0;
 
     fn value(row: Row) -> u8 {
         row.key.part
     }
+}
 
-    fn least_value() -> u8 {
-        0
+impl<F: Figures, K: Field> Default for Group<F, K> {
+    ghost is_default = { λ g. g ≡ (grouped K.Field.of K.Field.LEAST F.Figures.running).start };
+
+    fn default() -> Self {
+        Group {
+            closed: 0,
+            current: K::LEAST,
+            inside: F::default(),
+            field: PhantomData,
+        }
     }
 }
 
 impl<F: Figures + Drop, K: Field> Figures for Group<F, K> {
-    ghost running = { grouped K.Field.of K.Field.least F.Figures.running };
+    ghost running = { grouped K.Field.of K.Field.LEAST F.Figures.running };
 
     ghost most = { F.Figures.most };
 
+    ghost starts = { Prim.search rules };
+
     ghost low = { Prim.search rules };
 
-    ghost bounded = { λ rs h. group_bounded _ F.Figures.running F.Figures.most F.Figures.bounded K.Field.of K.Field.least rs h };
-
-    fn start() -> Self {
-        Group {
-            closed: 0,
-            current: K::least_value(),
-            inside: F::start(),
-            field: PhantomData,
-        }
-    }
+    ghost bounded = { λ rs h. group_bounded _ F.Figures.running F.Figures.most F.Figures.bounded K.Field.of K.Field.LEAST rs h };
 
     fn add(&mut self, row: Row) {
         let value = K::value(row);
         if value != self.current {
             self.closed += self.inside.total();
             self.current = value;
-            self.inside = F::start();
+            self.inside = F::default();
         }
         self.inside.add(row);
     }

@@ -8,11 +8,13 @@ use crate::figures::Figures;
 use crate::group::{ByHour, ByInterval, Group};
 use crate::rule::ChargeRule;
 use crate::walk::total_of;
+use sheet::kind::Kind;
+use sheet::pair::Pair;
 use sheet::row::Row;
 use sheet::sheet::Sheet;
 
 // Net energy of an interval, in kWh.
-#[derive(Clone, Copy)]
+#[derive(Clone, Copy, Default)]
 pub struct IntervalEnergy {
     pub day_ahead: i64,
     pub hasp: i64,
@@ -20,13 +22,13 @@ pub struct IntervalEnergy {
 }
 
 // Net TOR balance of an interval, in kWh.
-#[derive(Clone, Copy)]
+#[derive(Clone, Copy, Default)]
 pub struct IntervalBalance {
     pub net: i64,
 }
 
 // The hour's energy and balance by interval, and its awards.
-#[derive(Drop)]
+#[derive(Drop, Default)]
 pub struct HourEnergy {
     pub energy: Group<IntervalEnergy, ByInterval>,
     pub balance: Group<IntervalBalance, ByInterval>,
@@ -38,23 +40,21 @@ impl Figures for IntervalEnergy {
 
     ghost most = { 4000000 };
 
+    ghost starts = { Prim.search rules };
+
     ghost low = { Prim.search rules };
 
     ghost bounded = { λ rs h. energy_figures_bounded rs h };
 
-    fn start() -> Self {
-        IntervalEnergy {
-            day_ahead: 0,
-            hasp: 0,
-            real_time: 0,
-        }
-    }
-
     fn add(&mut self, row: Row) {
-        match row.key.kind {
-            1 => self.day_ahead += row.quantity as i64,
-            2 => self.hasp += row.quantity as i64,
-            3..=7 => self.real_time += row.quantity as i64,
+        match row.kind() {
+            Kind::DayAheadEnergy => self.day_ahead += i64::from(row.quantity),
+            Kind::HaspEnergy => self.hasp += i64::from(row.quantity),
+            Kind::OptimalEnergy
+            | Kind::RerateEnergy
+            | Kind::MinimumLoadEnergy
+            | Kind::SelfScheduleEnergy
+            | Kind::PumpingEnergy => self.real_time += i64::from(row.quantity),
             _ => {}
         }
     }
@@ -69,17 +69,15 @@ impl Figures for IntervalBalance {
 
     ghost most = { 4000000 };
 
+    ghost starts = { Prim.search rules };
+
     ghost low = { Prim.search rules };
 
     ghost bounded = { λ rs h. balance_figures_bounded rs h };
 
-    fn start() -> Self {
-        IntervalBalance { net: 0 }
-    }
-
     fn add(&mut self, row: Row) {
-        if row.key.kind == 8 {
-            self.net += row.quantity as i64;
+        if row.kind() == Kind::TorBalance {
+            self.net += i64::from(row.quantity);
         }
     }
 
@@ -93,23 +91,17 @@ impl Figures for HourEnergy {
 
     ghost most = { 8000000 };
 
+    ghost starts = { Prim.search rules };
+
     ghost low = { Prim.search rules };
 
     ghost bounded = { λ rs h. hour_figures_bounded rs h };
 
-    fn start() -> Self {
-        HourEnergy {
-            energy: <Group<_, _> as Figures>::start(),
-            balance: <Group<_, _> as Figures>::start(),
-            awards: 0,
-        }
-    }
-
     fn add(&mut self, row: Row) {
         self.energy.add(row);
         self.balance.add(row);
-        if row.key.kind >= 9 && row.key.kind <= 14 {
-            self.awards += row.quantity.unsigned_abs() as u64;
+        if matches!(row.kind(), Kind::VirtualAward | Kind::AncillaryAward) {
+            self.awards += u64::from(row.quantity.unsigned_abs());
         }
     }
 
@@ -134,7 +126,7 @@ impl ChargeRule for MarketServices {
         0
     }
 
-    fn tell_quantity(&self, sheet: Sheet<'_>, coordinator: usize, resource: u8) -> u64 {
-        100 * total_of::<Group<HourEnergy, ByHour>>(sheet, coordinator, resource)
+    fn tell_quantity(&self, sheet: Sheet<'_>, pair: Pair) -> u64 {
+        100 * total_of::<Group<HourEnergy, ByHour>>(sheet, pair)
     }
 }

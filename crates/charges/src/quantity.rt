@@ -5,35 +5,53 @@ ghost use Rattle.sheet.specs.Rows.{own_rows, pair_rows};
 ghost use Rattle.sheet.specs.Sheets.{sheet_rows};
 
 use crate::rule::ChargeRule;
+use sheet::pair::Pair;
 use sheet::sheet::Sheet;
 
-// The resources under which the coordinator has a row.
+// The resources under which the coordinator has a row: an array, since nothing here is on the heap. Its rows stand together, since keys ascend.
 fn resources_of(sheet: Sheet<'_>, coordinator: usize) -> [bool; 256]
     ensures long { length result ≡ 256 }
     ensures marks { (resource : ℕ) → resource < 256 → slice_index_or result resource false ≡ nat_lt 0 (length (pair_rows coordinator resource (sheet_rows sheet.entry))) }
 {
     let mut present = [false; 256];
-    for i in 0..sheet.len() {
-        let key = sheet.row(i).key;
-        if usize::from(key.coordinator) == coordinator {
-            present[usize::from(key.resource)] = true;
+    let first = sheet.first_row(Pair {
+        coordinator,
+        resource: 0,
+    });
+    for row in sheet.rows_from(first) {
+        if usize::from(row.key.coordinator) != coordinator {
+            break;
         }
+        present[usize::from(row.key.resource)] = true;
     }
     present
 }
 
-// A resource without rows has quantity zero under every rule, so only the others cost a walk.
+// A pair without rows has quantity zero under every rule, so only the others cost a walk.
+fn quantity_if<R: ChargeRule>(present: bool, rule: &R, sheet: Sheet<'_>, pair: Pair) -> u64
+    requires { present ≡ nat_lt 0 (length (pair_rows pair.coordinator pair.resource (sheet_rows sheet))) }
+    ensures { result ≡ R.quantity rule.now pair.coordinator pair.resource (pair_rows pair.coordinator pair.resource (sheet_rows sheet.entry)) }
+{
+    if present {
+        rule.tell_quantity(sheet, pair)
+    } else {
+        0
+    }
+}
+
+// The sum over the resources.
 pub fn coordinator_quantity<R: ChargeRule>(rule: &R, sheet: Sheet<'_>, coordinator: usize) -> u64
     ensures value { result ≡ quantity_of (meaning (R.code rule.now) (R.quantity rule.now)) coordinator (own_rows coordinator (sheet_rows sheet.entry)) }
     ensures low { result ≤ 819200000000 }
 {
     let present = resources_of(sheet, coordinator);
-    let mut sum: u64 = 0;
-    for resource in 0..256usize {
-        if present[resource] {
-            let quantity = rule.tell_quantity(sheet, coordinator, resource as u8);
-            sum += quantity;
-        }
+    let mut sum = 0;
+    for resource in 0..=u8::MAX {
+        let pair = Pair {
+            coordinator,
+            resource,
+        };
+        sum += quantity_if(present[usize::from(resource)], rule, sheet, pair);
     }
     sum
 }

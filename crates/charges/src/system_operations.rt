@@ -8,11 +8,13 @@ use crate::figures::Figures;
 use crate::group::{ByHour, ByInterval, ByPart, Group};
 use crate::rule::ChargeRule;
 use crate::walk::total_of;
+use sheet::kind::Kind;
+use sheet::pair::Pair;
 use sheet::row::Row;
 use sheet::sheet::Sheet;
 
 // Metered energy and TOR balance of one part, in kWh.
-#[derive(Clone, Copy)]
+#[derive(Clone, Copy, Default)]
 pub struct Meter {
     pub metered: i64,
     pub balance: i64,
@@ -23,21 +25,16 @@ impl Figures for Meter {
 
     ghost most = { 8000000 };
 
+    ghost starts = { Prim.search rules };
+
     ghost low = { Prim.search rules };
 
     ghost bounded = { λ rs h. meter_figures_bounded rs h };
 
-    fn start() -> Self {
-        Meter {
-            metered: 0,
-            balance: 0,
-        }
-    }
-
     fn add(&mut self, row: Row) {
-        match row.key.kind {
-            20 => self.metered += row.quantity as i64,
-            8 => self.balance += row.quantity as i64,
+        match row.kind() {
+            Kind::MeteredEnergy => self.metered += i64::from(row.quantity),
+            Kind::TorBalance => self.balance += i64::from(row.quantity),
             _ => {}
         }
     }
@@ -65,7 +62,7 @@ impl ChargeRule for SystemOperations {
         1
     }
 
-    fn tell_quantity(&self, sheet: Sheet<'_>, coordinator: usize, resource: u8) -> u64 {
-        100 * total_of::<Meters>(sheet, coordinator, resource)
+    fn tell_quantity(&self, sheet: Sheet<'_>, pair: Pair) -> u64 {
+        100 * total_of::<Meters>(sheet, pair)
     }
 }

@@ -7,11 +7,13 @@ ghost use Rattle.std.proofs.Common.{rules};
 use crate::figures::Figures;
 use crate::rule::ChargeRule;
 use crate::walk::total_of;
+use sheet::kind::Kind;
+use sheet::pair::Pair;
 use sheet::row::Row;
 use sheet::sheet::Sheet;
 
 // In kWh.
-#[derive(Clone, Copy)]
+#[derive(Clone, Copy, Default)]
 pub struct SupplyDemand {
     pub supply: u64,
     pub demand: u64,
@@ -22,31 +24,22 @@ impl Figures for SupplyDemand {
 
     ghost most = { 4000000 };
 
+    ghost starts = { Prim.search rules };
+
     ghost low = { Prim.search rules };
 
     ghost bounded = { λ rs h. tor_figures_bounded rs h };
 
-    fn start() -> Self {
-        SupplyDemand {
-            supply: 0,
-            demand: 0,
-        }
-    }
-
     fn add(&mut self, row: Row) {
-        match row.key.kind {
-            50 => self.supply += row.quantity.unsigned_abs() as u64,
-            51 => self.demand += row.quantity.unsigned_abs() as u64,
+        match row.kind() {
+            Kind::TorSupply => self.supply += u64::from(row.quantity.unsigned_abs()),
+            Kind::TorDemand => self.demand += u64::from(row.quantity.unsigned_abs()),
             _ => {}
         }
     }
 
     fn total(&self) -> u64 {
-        if self.supply < self.demand {
-            self.supply
-        } else {
-            self.demand
-        }
+        self.supply.min(self.demand)
     }
 }
 
@@ -66,10 +59,10 @@ impl ChargeRule for Tor {
         3
     }
 
-    fn tell_quantity(&self, sheet: Sheet<'_>, coordinator: usize, resource: u8) -> u64 {
-        if resource != 0 {
+    fn tell_quantity(&self, sheet: Sheet<'_>, pair: Pair) -> u64 {
+        if pair.resource != 0 {
             return 0;
         }
-        100 * total_of::<SupplyDemand>(sheet, coordinator, resource)
+        100 * total_of::<SupplyDemand>(sheet, pair)
     }
 }

@@ -7,10 +7,12 @@ ghost use Rattle.std.proofs.Common.{rules};
 use crate::figures::Figures;
 use crate::rule::ChargeRule;
 use crate::walk::total_of;
+use sheet::kind::Kind;
+use sheet::pair::Pair;
 use sheet::row::Row;
 use sheet::sheet::Sheet;
 
-#[derive(Clone, Copy)]
+#[derive(Clone, Copy, Default)]
 pub struct TradeSides {
     pub sides: u64,
 }
@@ -20,16 +22,14 @@ impl Figures for TradeSides {
 
     ghost most = { 1 };
 
+    ghost starts = { Prim.search rules };
+
     ghost low = { Prim.search rules };
 
     ghost bounded = { λ rs h. trade_figures_bounded rs h };
 
-    fn start() -> Self {
-        TradeSides { sides: 0 }
-    }
-
     fn add(&mut self, row: Row) {
-        if row.key.kind == 40 {
+        if row.kind() == Kind::TradeSide {
             self.sides += 1;
         }
     }
@@ -55,7 +55,7 @@ impl ChargeRule for TradeFee {
         4
     }
 
-    fn tell_quantity(&self, sheet: Sheet<'_>, coordinator: usize, resource: u8) -> u64 {
-        100_000 * total_of::<TradeSides>(sheet, coordinator, resource)
+    fn tell_quantity(&self, sheet: Sheet<'_>, pair: Pair) -> u64 {
+        100_000 * total_of::<TradeSides>(sheet, pair)
     }
 }

@@ -1,4 +1,3 @@
 pub mod Decides
 pub mod Examples
-pub mod Limits
 pub mod Lookup

@@ -1,5 +1,5 @@
 -- The three concessions over the charge quantity below, and the questions 18 and 19 of their entries.
-use Rattle.std.specs.Prelude.{◌≡◌, ℕ, ◌+◌, ◌-◌, ◌*◌, ◌/◌, Bool, false, cond, ◌&&◌, ◌||◌, List, [], ◌∷◌, length, take, None, Option, ◌==◌, nat_le, nat_lt, slice_index}
+use Rattle.std.specs.Prelude.{◌≡◌, ℕ, ◌+◌, ◌-◌, ◌*◌, ◌/◌, Bool, false, cond, ◌&&◌, ◌||◌, List, [], ◌∷◌, length, None, Option, ◌==◌, nat_le, nat_lt, slice_index}
 use Rattle.questions.specs.Questions.{Refusal, ask}
 use Rattle.sheet.specs.declared.row.Row.{Row}
 use Rattle.concessions.specs.declared.allowances.Allowance.{Allowance}
@@ -13,10 +13,10 @@ Quantity = ℕ → ℕ → List Row → ℕ
 
 -- in no order that is promised
 abbrev pub listed : Allowances → List Allowance
-listed a = take a.count a.places
+listed a = a.entries.items
 
 abbrev pub lists : ℕ → ℕ → Allowance → Bool
-lists coordinator resource a = a.coordinator == coordinator && a.resource == resource
+lists coordinator resource a = a.pair.coordinator == coordinator && a.pair.resource == resource
 
 abbrev pub is_listed : ℕ → ℕ → List Allowance → Bool
 is_listed coordinator resource [] = false

@@ -9,7 +9,7 @@ only_3 figure = slice_set (replicate 64 0) 3 figure
 
 -- an allowance of 30,000,000 for coordinator 3 and resource 7
 abbrev pub one_listed : List Allowance
-one_listed = record { coordinator = 3; resource = 7; quantity = 30000000 } ∷ []
+one_listed = record { pair = record { coordinator = 3; resource = 7 }; quantity = 30000000 } ∷ []
 
 pub record Example : Type 0 where
   pub concession : Quantity → Quantity

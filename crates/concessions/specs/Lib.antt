@@ -1,7 +1,6 @@
 pub mod Concessions
 pub mod Examples
 pub mod Faults
-pub mod Places
 pub mod Posted
 pub mod Bounds
 pub mod PostedBounds

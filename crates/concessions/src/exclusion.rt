@@ -6,14 +6,16 @@ ghost use Rattle.concessions.specs.Faults.{concession_fault};
 ghost use Rattle.std.proofs.Common.{rules};
 
 use crate::fault::ConcessionFault;
-use crate::table::figure_at;
+use crate::grandfathering::TakesAllowance;
+use crate::table::CoordinatorTable;
 use charges::rule::ChargeRule;
+use sheet::pair::Pair;
 use sheet::sheet::Sheet;
 
 #[derive(Drop)]
 pub struct Exclusion<R> {
     pub(crate) below: R,
-    marks: [u8; 64],
+    marks: CoordinatorTable<1>,
 }
 
 impl<R> Exclusion<R> {
@@ -23,20 +25,17 @@ impl<R> Exclusion<R> {
     {
         Exclusion {
             below,
-            marks: [0; 64],
+            marks: CoordinatorTable::new(),
         }
     }
 
+    // A number and not a `bool`: an entry takes any mark, and a question refuses one above 1.
     pub fn set_mark(&mut self, coordinator: usize, mark: u8) -> Result<(), ConcessionFault>
         ensures answered { told concession_fault result ≡ acceptance (mark_refusal coordinator mark) }
         ensures table { MatchResult result (λ _. self.new.marks ≡ slice_set self.old.marks coordinator mark) (λ _. self.new ≡ self.old) }
         ensures rule { self.new.below ≡ self.old.below }
     {
-        if coordinator >= 64 || mark > 1 {
-            return Err(ConcessionFault::OutOfRange);
-        }
-        self.marks[coordinator] = mark;
-        Ok(())
+        self.marks.set(coordinator, mark)
     }
 }
 
@@ -53,11 +52,21 @@ impl<R: ChargeRule> ChargeRule for Exclusion<R> {
         self.below.tell_code()
     }
 
-    fn tell_quantity(&self, sheet: Sheet<'_>, coordinator: usize, resource: u8) -> u64 {
-        if figure_at(&self.marks, coordinator) == 1 {
+    fn tell_quantity(&self, sheet: Sheet<'_>, pair: Pair) -> u64 {
+        if self.marks.get(pair.coordinator) == 1 {
             0
         } else {
-            self.below.tell_quantity(sheet, coordinator, resource)
+            self.below.tell_quantity(sheet, pair)
         }
+    }
+}
+
+impl<R: TakesAllowance> TakesAllowance for Exclusion<R> {
+    ghost allowances = { λ e. R.allowances e.below };
+
+    ghost with_allowances = { λ e list. record { below = R.with_allowances e.below list; marks = e.marks } };
+
+    fn set_allowance(&mut self, pair: Pair, allowance: u64) -> Result<(), ConcessionFault> {
+        self.below.set_allowance(pair, allowance)
     }
 }

@@ -3,6 +3,7 @@ ghost use Rattle.std.specs.Prelude.{◌≡◌};
 ghost use Rattle.concessions.specs.Faults.{concession_fault};
 
 use questions::Layer;
+use questions::fault::{Fault, write_fault};
 use std::fmt;
 
 #[derive(Clone, Copy, PartialEq, Eq, Debug)]
@@ -11,29 +12,25 @@ pub enum ConcessionFault {
     Full,
 }
 
-impl ConcessionFault {
-    pub fn question(&self) -> u8
-        ensures { result ≡ (concession_fault self.now).question }
-    {
+impl Fault for ConcessionFault {
+    ghost refusal = { concession_fault };
+
+    fn question(&self) -> u8 {
         match self {
             ConcessionFault::OutOfRange => 18,
             ConcessionFault::Full => 19,
         }
     }
 
-    pub fn layer(&self) -> Layer
-        ensures { result ≡ (concession_fault self.now).layer }
-    {
+    fn layer(&self) -> Layer {
         Layer::Concession
     }
 
-    pub fn place(&self) -> usize
-        ensures { result ≡ (concession_fault self.now).place }
-    {
+    fn place(&self) -> usize {
         0
     }
 
-    pub fn reason(&self) -> &'static str {
+    fn reason(&self) -> &'static str {
         match self {
             ConcessionFault::OutOfRange => "the coordinator or the figure is out of range",
             ConcessionFault::Full => "128 other pairs are listed",
@@ -41,13 +38,8 @@ impl ConcessionFault {
     }
 }
 
-// Question, layer, place, and what was wrong.
 impl fmt::Display for ConcessionFault {
     fn fmt<W: fmt::Write>(&self, f: &mut fmt::Formatter<W>) -> fmt::Result {
-        let question = self.question();
-        let layer = self.layer();
-        let place = self.place();
-        let reason = self.reason();
-        write!(f, "{question} {layer} {place} {reason}")
+        write_fault(self, f)
     }
 }

@@ -2,12 +2,14 @@
 ghost use Rattle.std.specs.Prelude.{◌≡◌, [], MatchResult};
 ghost use Rattle.questions.specs.Questions.{acceptance, told};
 ghost use Rattle.concessions.specs.Concessions.{Entered, allowance_refusal, grandfathered, listed};
+ghost use Rattle.concessions.specs.declared.allowances.Allowances.{Allowances};
 ghost use Rattle.concessions.specs.Faults.{concession_fault};
 ghost use Rattle.std.proofs.Common.{rules};
 
 use crate::allowances::Allowances;
 use crate::fault::ConcessionFault;
 use charges::rule::ChargeRule;
+use sheet::pair::Pair;
 use sheet::sheet::Sheet;
 
 #[derive(Drop)]
@@ -26,18 +28,28 @@ impl<R> Grandfathering<R> {
             allowances: Allowances::new(),
         }
     }
+}
 
-    pub fn set_allowance(
-        &mut self,
-        coordinator: usize,
-        resource: u8,
-        allowance: u64,
-    ) -> Result<(), ConcessionFault>
-        ensures answered { told concession_fault result ≡ acceptance (allowance_refusal (listed self.old.allowances) coordinator resource allowance) }
-        ensures table { MatchResult result (λ _. Entered coordinator resource allowance (listed self.old.allowances) (listed self.new.allowances)) (λ _. self.new ≡ self.old) }
-        ensures rule { self.new.below ≡ self.old.below }
-    {
-        self.allowances.set(coordinator, resource, allowance)
+// A rule that takes allowances: grandfathering, or a concession over such a rule.
+pub trait TakesAllowance {
+    ghost allowances: { Self → Allowances };
+
+    ghost with_allowances: { Self → Allowances → Self };
+
+    // Nothing but the list changes.
+    fn set_allowance(&mut self, pair: Pair, allowance: u64) -> Result<(), ConcessionFault>
+        ensures answered { told concession_fault result ≡ acceptance (allowance_refusal (listed (allowances self.old)) pair.coordinator pair.resource allowance) }
+        ensures table { MatchResult result (λ _. Entered pair.coordinator pair.resource allowance (listed (allowances self.old)) (listed (allowances self.new))) (λ _. self.new ≡ self.old) }
+        ensures rest { self.new ≡ with_allowances self.old (allowances self.new) };
+}
+
+impl<R> TakesAllowance for Grandfathering<R> {
+    ghost allowances = { λ e. e.allowances };
+
+    ghost with_allowances = { λ e list. record { below = e.below; allowances = list } };
+
+    fn set_allowance(&mut self, pair: Pair, allowance: u64) -> Result<(), ConcessionFault> {
+        self.allowances.set(pair, allowance)
     }
 }
 
@@ -54,8 +66,8 @@ impl<R: ChargeRule> ChargeRule for Grandfathering<R> {
         self.below.tell_code()
     }
 
-    fn tell_quantity(&self, sheet: Sheet<'_>, coordinator: usize, resource: u8) -> u64 {
-        let whole = self.below.tell_quantity(sheet, coordinator, resource);
-        whole.saturating_sub(self.allowances.get(coordinator, resource))
+    fn tell_quantity(&self, sheet: Sheet<'_>, pair: Pair) -> u64 {
+        let whole = self.below.tell_quantity(sheet, pair);
+        whole.saturating_sub(self.allowances.get(pair))
     }
 }

@@ -5,7 +5,6 @@ pub mod allowances;
 pub mod exclusion;
 pub mod fault;
 pub mod grandfathering;
-mod listing;
 pub mod posted;
 pub mod ramp_in;
 mod table;

@@ -1,7 +1,7 @@
 // The rules as they are posted, each by its name, and one type for all of them.
 ghost use Rattle.std.specs.Prelude.{◌≡◌, [], replicate, MatchResult, slice_set};
 ghost use Rattle.questions.specs.Questions.{acceptance, told};
-ghost use Rattle.concessions.specs.Concessions.{Entered, allowance_refusal, listed, mark_refusal};
+ghost use Rattle.concessions.specs.Concessions.{listed, mark_refusal};
 ghost use Rattle.concessions.specs.Faults.{concession_fault};
 ghost use Rattle.concessions.specs.Posted.{posted_code, posted_quantity};
 ghost use Rattle.concessions.specs.PostedBounds.{posted_bounded};
@@ -17,6 +17,7 @@ use charges::rule::ChargeRule;
 use charges::system_operations::SystemOperations;
 use charges::tor::Tor;
 use charges::trade_fee::TradeFee;
+use sheet::pair::Pair;
 use sheet::sheet::Sheet;
 
 pub type PostedMarketServices = Exclusion<MarketServices>;
@@ -37,8 +38,9 @@ pub fn posted_system_operations() -> PostedSystemOperations
     RampIn::new(Exclusion::new(Grandfathering::new(SystemOperations {})))
 }
 
-// ---- entries of the tables below
+// ---- an entry of the table below
 
+// No trait, as allowances have one: for the one rule that passes marks on, two impls would say more than this.
 impl<R> RampIn<Exclusion<R>> {
     pub fn set_mark(&mut self, coordinator: usize, mark: u8) -> Result<(), ConcessionFault>
         ensures answered { told concession_fault result ≡ acceptance (mark_refusal coordinator mark) }
@@ -47,39 +49,6 @@ impl<R> RampIn<Exclusion<R>> {
         ensures percents { self.new.percents ≡ self.old.percents }
     {
         self.below.set_mark(coordinator, mark)
-    }
-}
-
-impl<R> Exclusion<Grandfathering<R>> {
-    pub fn set_allowance(
-        &mut self,
-        coordinator: usize,
-        resource: u8,
-        allowance: u64,
-    ) -> Result<(), ConcessionFault>
-        ensures answered { told concession_fault result ≡ acceptance (allowance_refusal (listed self.old.below.allowances) coordinator resource allowance) }
-        ensures table { MatchResult result (λ _. Entered coordinator resource allowance (listed self.old.below.allowances) (listed self.new.below.allowances)) (λ _. self.new ≡ self.old) }
-        ensures rule { self.new.below.below ≡ self.old.below.below }
-        ensures marks { self.new.marks ≡ self.old.marks }
-    {
-        self.below.set_allowance(coordinator, resource, allowance)
-    }
-}
-
-impl<R> RampIn<Exclusion<Grandfathering<R>>> {
-    pub fn set_allowance(
-        &mut self,
-        coordinator: usize,
-        resource: u8,
-        allowance: u64,
-    ) -> Result<(), ConcessionFault>
-        ensures answered { told concession_fault result ≡ acceptance (allowance_refusal (listed self.old.below.below.allowances) coordinator resource allowance) }
-        ensures table { MatchResult result (λ _. Entered coordinator resource allowance (listed self.old.below.below.allowances) (listed self.new.below.below.allowances)) (λ _. self.new ≡ self.old) }
-        ensures rule { self.new.below.below.below ≡ self.old.below.below.below }
-        ensures marks { self.new.below.marks ≡ self.old.below.marks }
-        ensures percents { self.new.percents ≡ self.old.percents }
-    {
-        self.below.set_allowance(coordinator, resource, allowance)
     }
 }
 
@@ -112,13 +81,13 @@ impl ChargeRule for PostedRule {
         }
     }
 
-    fn tell_quantity(&self, sheet: Sheet<'_>, coordinator: usize, resource: u8) -> u64 {
+    fn tell_quantity(&self, sheet: Sheet<'_>, pair: Pair) -> u64 {
         match self {
-            PostedRule::MarketServices(rule) => rule.tell_quantity(sheet, coordinator, resource),
-            PostedRule::SystemOperations(rule) => rule.tell_quantity(sheet, coordinator, resource),
-            PostedRule::BidSegment(rule) => rule.tell_quantity(sheet, coordinator, resource),
-            PostedRule::Tor(rule) => rule.tell_quantity(sheet, coordinator, resource),
-            PostedRule::TradeFee(rule) => rule.tell_quantity(sheet, coordinator, resource),
+            PostedRule::MarketServices(rule) => rule.tell_quantity(sheet, pair),
+            PostedRule::SystemOperations(rule) => rule.tell_quantity(sheet, pair),
+            PostedRule::BidSegment(rule) => rule.tell_quantity(sheet, pair),
+            PostedRule::Tor(rule) => rule.tell_quantity(sheet, pair),
+            PostedRule::TradeFee(rule) => rule.tell_quantity(sheet, pair),
         }
     }
 }

@@ -1,21 +1,22 @@
 // Ramp-in: a coordinator's quantities are reduced by its percent.
-ghost use Rattle.std.specs.Prelude.{◌≡◌, ℕ, ◌≤◌, replicate, MatchResult, slice_index, slice_set};
+ghost use Rattle.std.specs.Prelude.{◌≡◌, replicate, MatchResult, slice_set};
 ghost use Rattle.questions.specs.Questions.{acceptance, told};
 ghost use Rattle.concessions.specs.Concessions.{percent_refusal, ramped_in};
 ghost use Rattle.concessions.specs.Faults.{concession_fault};
 ghost use Rattle.concessions.specs.Bounds.{ramped_in_bounded};
-ghost use Rattle.std.proofs.Common.{rules, arith};
+ghost use Rattle.std.proofs.Common.{rules};
 
 use crate::fault::ConcessionFault;
-use crate::table::figure_at;
+use crate::grandfathering::TakesAllowance;
+use crate::table::CoordinatorTable;
 use charges::rule::ChargeRule;
+use sheet::pair::Pair;
 use sheet::sheet::Sheet;
 
 #[derive(Drop)]
 pub struct RampIn<R> {
     pub(crate) below: R,
-    percents: [u8; 64],
-    ghost hundred: { (coordinator : ℕ) → slice_index percents coordinator ≤ 100 },
+    percents: CoordinatorTable<100>,
 }
 
 impl<R> RampIn<R> {
@@ -25,7 +26,7 @@ impl<R> RampIn<R> {
     {
         RampIn {
             below,
-            percents: [0; 64],
+            percents: CoordinatorTable::new(),
         }
     }
 
@@ -34,11 +35,7 @@ impl<R> RampIn<R> {
         ensures table { MatchResult result (λ _. self.new.percents ≡ slice_set self.old.percents coordinator percent) (λ _. self.new ≡ self.old) }
         ensures rule { self.new.below ≡ self.old.below }
     {
-        if coordinator >= 64 || percent > 100 {
-            return Err(ConcessionFault::OutOfRange);
-        }
-        self.percents[coordinator] = percent;
-        Ok(())
+        self.percents.set(coordinator, percent)
     }
 }
 
@@ -47,7 +44,7 @@ impl<R: ChargeRule> ChargeRule for RampIn<R> {
 
     ghost quantity = { λ e. ramped_in e.percents (R.ChargeRule.quantity e.below) };
 
-    ghost code_low = { first_of (Prim.search rules, Prim.grind (arith, Self.row.coded.inj)) };
+    ghost code_low = { Prim.search rules };
 
     ghost bounded = { λ e. ramped_in_bounded e.percents _ (R.ChargeRule.bounded e.below) };
 
@@ -55,9 +52,19 @@ impl<R: ChargeRule> ChargeRule for RampIn<R> {
         self.below.tell_code()
     }
 
-    fn tell_quantity(&self, sheet: Sheet<'_>, coordinator: usize, resource: u8) -> u64 {
-        let percent = figure_at(&self.percents, coordinator);
-        let whole = self.below.tell_quantity(sheet, coordinator, resource);
-        whole * (100 - percent as u64) / 100
+    fn tell_quantity(&self, sheet: Sheet<'_>, pair: Pair) -> u64 {
+        let percent = self.percents.get(pair.coordinator);
+        let whole = self.below.tell_quantity(sheet, pair);
+        whole * (100 - u64::from(percent)) / 100
+    }
+}
+
+impl<R: TakesAllowance> TakesAllowance for RampIn<R> {
+    ghost allowances = { λ e. R.allowances e.below };
+
+    ghost with_allowances = { λ e list. record { below = R.with_allowances e.below list; percents = e.percents } };
+
+    fn set_allowance(&mut self, pair: Pair, allowance: u64) -> Result<(), ConcessionFault> {
+        self.below.set_allowance(pair, allowance)
     }
 }

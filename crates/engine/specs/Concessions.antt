@@ -10,7 +10,7 @@ abbrev pub concession_refusal : Engine → ConcessionEntry → Option Refusal
 concession_refusal e (MarketServicesExclusion coordinator mark) = mark_refusal coordinator mark
 concession_refusal e (SystemOperationsExclusion coordinator mark) = mark_refusal coordinator mark
 concession_refusal e (RampIn coordinator percent) = percent_refusal coordinator percent
-concession_refusal e (Grandfathering coordinator resource allowance) = allowance_refusal (listed e.system_operations.below.below.allowances) coordinator resource allowance
+concession_refusal e (Grandfathering pair allowance) = allowance_refusal (listed e.system_operations.below.below.allowances) pair.coordinator pair.resource allowance
 
 -- one table has the entry, and the others stay
 abbrev pub Conceded : ConcessionEntry → Engine → Engine → Type 0
@@ -26,8 +26,8 @@ Conceded (RampIn coordinator percent) before after =
     (after.system_operations.percents ≡ slice_set before.system_operations.percents coordinator percent)
     × (after.system_operations.below ≡ before.system_operations.below)
     × (after.market_services ≡ before.market_services)
-Conceded (Grandfathering coordinator resource allowance) before after =
-    Entered coordinator resource allowance (listed before.system_operations.below.below.allowances) (listed after.system_operations.below.below.allowances)
+Conceded (Grandfathering pair allowance) before after =
+    Entered pair.coordinator pair.resource allowance (listed before.system_operations.below.below.allowances) (listed after.system_operations.below.below.allowances)
     × (after.system_operations.below.marks ≡ before.system_operations.below.marks)
     × (after.system_operations.percents ≡ before.system_operations.percents)
     × (after.market_services ≡ before.market_services)

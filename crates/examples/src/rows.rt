@@ -1,7 +1,7 @@
 // Sheets made of rows.
 use std::alloc::Global;
 
-// A row of coordinator 0 in hour 1 and interval 1.
+// A row of coordinator 0 in hour 1 and interval 1. The library's would repeat these in each example.
 #[derive(Clone, Copy)]
 pub struct Row {
     pub resource: u8,

@@ -2,14 +2,14 @@
 use crate::rows::{Row, sheet_of};
 use crate::verdict::verdict;
 use sheet::check::check;
+use sheet::fault::{RowFault, SheetFault};
 use std::alloc::Global;
 
 #[derive(Clone, Copy)]
 struct SheetExample {
     name: &'static str,
     rows: &'static [Row],
-    question: u8,
-    place: usize,
+    fault: SheetFault,
 }
 
 const EXAMPLES: [SheetExample; 2] = [
@@ -21,8 +21,7 @@ const EXAMPLES: [SheetExample; 2] = [
             kind: 1,
             quantity: 4_000_001,
         }],
-        question: 5,
-        place: 0,
+        fault: SheetFault::Row(RowFault::TooLarge(0)),
     },
     SheetExample {
         name: "equal keys",
@@ -40,61 +39,56 @@ const EXAMPLES: [SheetExample; 2] = [
                 quantity: 2,
             },
         ],
-        question: 3,
-        place: 1,
+        fault: SheetFault::Row(RowFault::NotAbove(1)),
     },
 ];
 
 fn show_refusal(rt: &HostRuntime, example: SheetExample) -> anyhow::Result<()> {
     let name = example.name;
     let sheet = sheet_of(rt.alloc(), example.rows)?;
-    match check(sheet.as_slice()) {
-        Ok(count) => println!(rt; "{name}: {count} rows: {}", verdict(false))?,
-        Err(fault) => {
-            let met = fault.question() == example.question && fault.place() == example.place;
-            println!(rt; "{name}: refused {fault}: {}", verdict(met))?;
-        }
+    let answer = check(sheet.as_slice());
+    let verdict = verdict(answer == Err(example.fault));
+    match answer {
+        Ok(count) => println!(rt; "{name}: {count} rows: {verdict}")?,
+        Err(fault) => println!(rt; "{name}: refused {fault}: {verdict}")?,
     }
     Ok(())
 }
 
 fn many_rows(heap: Global, count: u16) -> anyhow::Result<Vec<Row>> {
-    let mut rows = Vec::new(heap);
-    for number in 0..count {
-        let [resource, part] = number.to_be_bytes();
-        rows.push(Row {
-            resource,
-            part,
-            kind: 1,
-            quantity: 1,
-        })?;
-    }
+    let rows = (0..count)
+        .map(|number| {
+            let [resource, part] = number.to_be_bytes();
+            Row {
+                resource,
+                part,
+                kind: 1,
+                quantity: 1,
+            }
+        })
+        .collect(heap)?;
     Ok(rows)
 }
 
-// A sheet of so many rows passes, or else question 1 is answered no.
-fn show_count(rt: &HostRuntime, count: u16, passes: bool) -> anyhow::Result<()> {
+fn show_count(
+    rt: &HostRuntime,
+    count: u16,
+    expected: Result<usize, SheetFault>,
+) -> anyhow::Result<()> {
     let rows = many_rows(rt.alloc(), count)?;
     let sheet = sheet_of(rt.alloc(), rows.as_slice())?;
-    match check(sheet.as_slice()) {
-        Ok(answer) => {
-            let met = passes && answer == usize::from(count);
-            println!(rt; "a sheet of {count} rows: {answer} rows: {}", verdict(met))?;
-        }
-        Err(fault) => {
-            let met = !passes && fault.question() == 1;
-            println!(rt;
-                "a sheet of {count} rows: refused {fault}: {}",
-                verdict(met)
-            )?;
-        }
+    let answer = check(sheet.as_slice());
+    let verdict = verdict(answer == expected);
+    match answer {
+        Ok(rows) => println!(rt; "a sheet of {count} rows: {rows} rows: {verdict}")?,
+        Err(fault) => println!(rt; "a sheet of {count} rows: refused {fault}: {verdict}")?,
     }
     Ok(())
 }
 
 pub fn show(rt: &HostRuntime) -> anyhow::Result<()> {
-    show_count(rt, 2048, true)?;
-    show_count(rt, 2049, false)?;
+    show_count(rt, 2048, Ok(2048))?;
+    show_count(rt, 2049, Err(SheetFault::Count))?;
     for example in EXAMPLES {
         show_refusal(rt, example)?;
     }

@@ -9,34 +9,27 @@ use journal::kept_year::keep_year;
 use std::alloc::Global;
 use yearbook::book::YearBook;
 use yearbook::fault::BookFault;
+use yearbook::terms::Terms;
 
 pub struct YearExample {
     pub name: &'static str,
-    pub demands: &'static [u32],
-    pub flags: &'static [u8],
+    pub terms: Terms<'static>,
     pub entries: &'static [Entry<'static, TradeFee>],
-    pub question: Option<u8>,
+    pub refusal: Option<BookFault>,
     pub market: i64,
     pub rc: &'static [u64],
 }
 
 // The first refusal among the answers.
-fn refusal(answers: &[Result<Answer, BookFault>]) -> Option<BookFault> {
-    for answer in answers {
-        if let Err(fault) = *answer {
-            return Some(fault);
-        }
-    }
-    None
+fn first_refusal(answers: &[Result<Answer, BookFault>]) -> Option<BookFault> {
+    answers.iter().find_map(|answer| answer.err())
 }
 
 fn rc_balances(heap: Global, book: &YearBook, count: usize) -> anyhow::Result<Vec<u64>> {
-    let mut balances = Vec::new(heap);
-    for coordinator in 0..count {
-        if let Ok((_, rc)) = book.balances(coordinator) {
-            balances.push(rc)?;
-        }
-    }
+    let balances = (0..count)
+        .filter_map(|coordinator| book.balances(coordinator).ok())
+        .map(|(_, rc)| rc)
+        .collect(heap)?;
     Ok(balances)
 }
 
@@ -44,31 +37,17 @@ fn show_year(rt: &HostRuntime, example: &YearExample) -> anyhow::Result<()> {
     let name = example.name;
     let mut book = YearBook::new();
     let mut answers = [Ok(Answer::Accepted); 4];
-    let _ = keep_year(
-        &mut book,
-        example.demands,
-        example.flags,
-        example.entries,
-        &mut answers,
-    );
+    let _ = keep_year(&mut book, example.terms, example.entries, &mut answers);
     let (market, _) = book.totals();
-    let rc = rc_balances(rt.alloc(), &book, example.demands.len())?;
+    let rc = rc_balances(rt.alloc(), &book, example.terms.demands.len())?;
+    let refusal = first_refusal(&answers);
     let kept = market == example.market && rc.as_slice() == example.rc;
-    match refusal(&answers) {
-        None => {
-            let met = kept && example.question.is_none();
-            println!(rt;
-                "{name}: accepted, market {market}, RC {rc:?}: {}",
-                verdict(met)
-            )?;
-        }
-        Some(fault) => {
-            let met = kept && example.question == Some(fault.question());
-            println!(rt;
-                "{name}: refused {fault}, market {market}, RC {rc:?}: {}",
-                verdict(met)
-            )?;
-        }
+    let verdict = verdict(kept && refusal == example.refusal);
+    match refusal {
+        None => println!(rt; "{name}: accepted, market {market}, RC {rc:?}: {verdict}")?,
+        Some(fault) => println!(rt;
+            "{name}: refused {fault}, market {market}, RC {rc:?}: {verdict}"
+        )?,
     }
     Ok(())
 }

@@ -1,114 +1,93 @@
 // The commands of a journal, read off a line.
-use crate::charge;
-use crate::charge::Charge;
 use crate::malformed::Malformed;
-use crate::words::{next, number};
-use std::str::SplitWhitespace;
-use yearbook::side::Side;
+use crate::words::Words;
+use engine::charge::Charge;
+use engine::concession::ConcessionEntry;
+use engine::engine::PlainEntry;
+use journal::entry::Entry;
+use sheet::pair::Pair;
 
 // A sheet stands as the word that names it, a list as it is written.
-#[derive(Clone, Copy)]
+#[derive(Drop)]
 pub enum Command<'a> {
-    OnSheet(SheetCommand, &'a str),
-    Open { demands: &'a str, flags: &'a str },
-    OnBook(BookCommand),
-    Concession(ConcessionEntry),
-}
-
-#[derive(Clone, Copy)]
-pub enum SheetCommand {
-    Check,
+    Check {
+        sheet: &'a str,
+    },
+    Open {
+        demands: &'a str,
+        flags: &'a str,
+    },
     Post {
         charge: Charge,
         day: u16,
         rate: u32,
+        sheet: &'a str,
     },
     Quote {
         charge: Charge,
         coordinator: usize,
         rate: u32,
+        sheet: &'a str,
     },
-}
-
-#[derive(Clone, Copy)]
-pub enum BookCommand {
-    Adjust {
-        coordinator: usize,
-        cents: i64,
-    },
-    Pay {
-        side: Side,
-        coordinator: usize,
-        cents: u64,
-    },
-    Assess {
-        charge: u64,
-        minimum: u64,
-    },
-    Default {
-        debtor: usize,
-        cents: u64,
-    },
+    Enter(PlainEntry<'a>),
     Balances {
         coordinator: usize,
     },
     Totals,
+    Concede(ConcessionEntry),
 }
 
-#[derive(Clone, Copy)]
-pub enum ConcessionEntry {
-    MarketServicesExclusion {
-        coordinator: usize,
-        mark: u8,
-    },
-    SystemOperationsExclusion {
-        coordinator: usize,
-        mark: u8,
-    },
-    RampIn {
-        coordinator: usize,
-        percent: u8,
-    },
-    Grandfathering {
-        coordinator: usize,
-        resource: u8,
-        allowance: u64,
-    },
+fn post<'a>(words: &mut Words<'a>) -> Result<Command<'a>, Malformed<'a>> {
+    Ok(Command::Post {
+        charge: words.charge()?,
+        day: words.number("DAY")?,
+        rate: words.number("RATE")?,
+        sheet: words.word("SHEET")?,
+    })
 }
 
-fn side(word: &str) -> Result<Side, Malformed<'_>> {
-    match word {
-        "market" => Ok(Side::Market),
-        "rc" => Ok(Side::Rc),
-        _ => Err(Malformed::UnknownSide(word)),
-    }
+fn quote<'a>(words: &mut Words<'a>) -> Result<Command<'a>, Malformed<'a>> {
+    Ok(Command::Quote {
+        charge: words.charge()?,
+        coordinator: words.number("COORDINATOR")?,
+        rate: words.number("RATE")?,
+        sheet: words.word("SHEET")?,
+    })
 }
 
-fn post<'a>(words: &mut SplitWhitespace<'a>) -> Result<Command<'a>, Malformed<'a>> {
-    let charge = charge::named(next(words, "CHARGE")?)?;
-    let day = number(next(words, "DAY")?)?;
-    let rate = number(next(words, "RATE")?)?;
-    let sheet = next(words, "SHEET")?;
-    Ok(Command::OnSheet(SheetCommand::Post { charge, day, rate }, sheet))
+fn adjust<'a>(words: &mut Words<'a>) -> Result<PlainEntry<'a>, Malformed<'a>> {
+    Ok(Entry::Adjust {
+        coordinator: words.number("COORDINATOR")?,
+        amount: words.number("CENTS")?,
+    })
 }
 
-fn quote<'a>(words: &mut SplitWhitespace<'a>) -> Result<Command<'a>, Malformed<'a>> {
-    let charge = charge::named(next(words, "CHARGE")?)?;
-    let coordinator = number(next(words, "COORDINATOR")?)?;
-    let rate = number(next(words, "RATE")?)?;
-    let sheet = next(words, "SHEET")?;
-    let command = SheetCommand::Quote {
-        charge,
-        coordinator,
-        rate,
-    };
-    Ok(Command::OnSheet(command, sheet))
+fn pay<'a>(words: &mut Words<'a>) -> Result<PlainEntry<'a>, Malformed<'a>> {
+    Ok(Entry::Pay {
+        side: words.side()?,
+        coordinator: words.number("COORDINATOR")?,
+        amount: words.number("CENTS")?,
+    })
 }
 
-fn exclusion<'a>(words: &mut SplitWhitespace<'a>) -> Result<ConcessionEntry, Malformed<'a>> {
-    let table = next(words, "CHARGE")?;
-    let coordinator = number(next(words, "COORDINATOR")?)?;
-    let mark = number(next(words, "MARK")?)?;
+fn assess<'a>(words: &mut Words<'a>) -> Result<PlainEntry<'a>, Malformed<'a>> {
+    Ok(Entry::Assess {
+        charge: words.number("CHARGE")?,
+        minimum: words.number("MINIMUM")?,
+    })
+}
+
+fn default<'a>(words: &mut Words<'a>) -> Result<PlainEntry<'a>, Malformed<'a>> {
+    Ok(Entry::Default {
+        debtor: words.number("COORDINATOR")?,
+        unpaid: words.number("CENTS")?,
+    })
+}
+
+fn exclusion<'a>(words: &mut Words<'a>) -> Result<ConcessionEntry, Malformed<'a>> {
+    let table = words.word("CHARGE")?;
+    let coordinator = words.number("COORDINATOR")?;
+    let mark = words.number("MARK")?;
     match table {
         "market-services" => Ok(ConcessionEntry::MarketServicesExclusion { coordinator, mark }),
         "system-operations" => Ok(ConcessionEntry::SystemOperationsExclusion { coordinator, mark }),
@@ -116,75 +95,54 @@ fn exclusion<'a>(words: &mut SplitWhitespace<'a>) -> Result<ConcessionEntry, Mal
     }
 }
 
-fn ramp_in<'a>(words: &mut SplitWhitespace<'a>) -> Result<ConcessionEntry, Malformed<'a>> {
+fn ramp_in<'a>(words: &mut Words<'a>) -> Result<ConcessionEntry, Malformed<'a>> {
     Ok(ConcessionEntry::RampIn {
-        coordinator: number(next(words, "COORDINATOR")?)?,
-        percent: number(next(words, "PERCENT")?)?,
+        coordinator: words.number("COORDINATOR")?,
+        percent: words.number("PERCENT")?,
     })
 }
 
-fn grandfathering<'a>(words: &mut SplitWhitespace<'a>) -> Result<ConcessionEntry, Malformed<'a>> {
+fn grandfathering<'a>(words: &mut Words<'a>) -> Result<ConcessionEntry, Malformed<'a>> {
+    let coordinator = words.number("COORDINATOR")?;
+    let resource = words.number("RESOURCE")?;
     Ok(ConcessionEntry::Grandfathering {
-        coordinator: number(next(words, "COORDINATOR")?)?,
-        resource: number(next(words, "RESOURCE")?)?,
-        allowance: number(next(words, "ALLOWANCE")?)?,
+        pair: Pair {
+            coordinator,
+            resource,
+        },
+        allowance: words.number("ALLOWANCE")?,
     })
 }
 
-// The calls of the book that name no sheet.
-fn on_book<'a>(
-    name: &'a str,
-    words: &mut SplitWhitespace<'a>,
-) -> Result<BookCommand, Malformed<'a>> {
+fn named<'a>(name: &'a str, words: &mut Words<'a>) -> Result<Command<'a>, Malformed<'a>> {
     match name {
-        "adjust" => Ok(BookCommand::Adjust {
-            coordinator: number(next(words, "COORDINATOR")?)?,
-            cents: number(next(words, "CENTS")?)?,
+        "check" => Ok(Command::Check {
+            sheet: words.word("SHEET")?,
         }),
-        "pay" => Ok(BookCommand::Pay {
-            side: side(next(words, "SIDE")?)?,
-            coordinator: number(next(words, "COORDINATOR")?)?,
-            cents: number(next(words, "CENTS")?)?,
+        "open" => Ok(Command::Open {
+            demands: words.word("DEMANDS")?,
+            flags: words.word("FLAGS")?,
         }),
-        "assess" => Ok(BookCommand::Assess {
-            charge: number(next(words, "CHARGE")?)?,
-            minimum: number(next(words, "MINIMUM")?)?,
+        "post" => post(words),
+        "quote" => quote(words),
+        "adjust" => Ok(Command::Enter(adjust(words)?)),
+        "pay" => Ok(Command::Enter(pay(words)?)),
+        "assess" => Ok(Command::Enter(assess(words)?)),
+        "default" => Ok(Command::Enter(default(words)?)),
+        "balances" => Ok(Command::Balances {
+            coordinator: words.number("COORDINATOR")?,
         }),
-        "default" => Ok(BookCommand::Default {
-            debtor: number(next(words, "COORDINATOR")?)?,
-            cents: number(next(words, "CENTS")?)?,
-        }),
-        "balances" => Ok(BookCommand::Balances {
-            coordinator: number(next(words, "COORDINATOR")?)?,
-        }),
-        "totals" => Ok(BookCommand::Totals),
+        "totals" => Ok(Command::Totals),
+        "exclusion" => Ok(Command::Concede(exclusion(words)?)),
+        "ramp-in" => Ok(Command::Concede(ramp_in(words)?)),
+        "grandfathering" => Ok(Command::Concede(grandfathering(words)?)),
         _ => Err(Malformed::UnknownCommand(name)),
     }
 }
 
-fn named<'a>(name: &'a str, words: &mut SplitWhitespace<'a>) -> Result<Command<'a>, Malformed<'a>> {
-    match name {
-        "check" => Ok(Command::OnSheet(SheetCommand::Check, next(words, "SHEET")?)),
-        "post" => post(words),
-        "quote" => quote(words),
-        "open" => Ok(Command::Open {
-            demands: next(words, "DEMANDS")?,
-            flags: next(words, "FLAGS")?,
-        }),
-        "exclusion" => Ok(Command::Concession(exclusion(words)?)),
-        "ramp-in" => Ok(Command::Concession(ramp_in(words)?)),
-        "grandfathering" => Ok(Command::Concession(grandfathering(words)?)),
-        _ => Ok(Command::OnBook(on_book(name, words)?)),
-    }
-}
-
-// The command on a line, with nothing behind its arguments.
-pub fn parse(line: &str) -> Result<Command<'_>, Malformed<'_>> {
-    let mut words = line.split_whitespace();
-    let name = next(&mut words, "COMMAND")?;
+// The command of a name, with nothing behind its arguments.
+pub fn parse<'a>(name: &'a str, mut words: Words<'a>) -> Result<Command<'a>, Malformed<'a>> {
     let command = named(name, &mut words)?;
-    match words.next() {
-        None => Ok(command),
-        Some(extra) => Err(Malformed::Extra(extra)),
-    }
+    words.end()?;
+    Ok(command)
 }

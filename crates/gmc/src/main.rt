@@ -1,87 +1,81 @@
 // gmc: does the commands of a journal, one to a line, and prints what each is answered.
 #![tactic(auto)]
 
-mod charge;
 mod command;
-mod engine;
+mod doing;
 mod help;
 mod malformed;
 mod outcome;
 mod sheet_bytes;
 mod words;
 
-use crate::engine::Engine;
-use crate::malformed::{Malformed, Quoted};
+use crate::doing::do_command;
+use crate::malformed::{Malformed, MalformedLine, Quoted};
+use crate::outcome::Undone;
+use crate::words::Words;
 use anyhow::anyhow;
+use engine::engine::Engine;
 use std::fs::File;
 use std::io::{BufRead, BufReader, Read};
 use std::process::ExitCode;
 use std::str::from_utf8;
 use std::{env, io};
 
-// Does one line of the journal and prints its outcome; false where it is malformed.
-fn do_line(rt: &HostRuntime, engine: &mut Engine, number: u64, bytes: &[u8]) -> io::Result<bool> {
+// Does one line of the journal and prints its outcome.
+fn do_line(
+    rt: &HostRuntime,
+    engine: &mut Engine,
+    number: usize,
+    bytes: &[u8],
+) -> io::Result<Result<(), MalformedLine>> {
     let Ok(text) = from_utf8(bytes) else {
         println!(rt; "{number} malformed {}", Malformed::NotText)?;
-        return Ok(false);
+        return Ok(Err(MalformedLine));
     };
-    let line = text.trim();
-    if line.is_empty() || line.starts_with('#') {
-        return Ok(true);
+    let mut words = text.split_whitespace();
+    let Some(name) = words.next() else {
+        return Ok(Ok(()));
+    };
+    if name.starts_with('#') {
+        return Ok(Ok(()));
     }
-    match engine.do_command(rt, line) {
-        Ok(outcome) => {
-            println!(rt; "{number} {outcome}")?;
-            Ok(true)
-        }
-        Err(malformed) => {
+    match do_command(rt, engine, name, Words::new(words)) {
+        Ok(figures) => println!(rt; "{number} {name} {figures}")?,
+        Err(Undone::Malformed(malformed)) => {
             println!(rt; "{number} malformed {malformed}")?;
-            Ok(false)
+            return Ok(Err(MalformedLine));
         }
+        Err(refused) => println!(rt; "{number} {name} {refused}")?,
     }
+    Ok(Ok(()))
 }
 
-// Does the journal's lines in turn; false where one was malformed.
-fn do_journal<R: Read + Drop>(rt: &HostRuntime, journal: R) -> io::Result<bool> {
+// Does the journal's lines in turn, those behind a malformed one too.
+fn do_journal<R: Read + Drop>(rt: &HostRuntime, journal: R) -> anyhow::Result<()> {
     let mut engine = Engine::new();
-    let mut number: u64 = 0;
-    let mut well_formed = true;
-    for line in BufReader::new(rt.alloc(), journal)?.split(rt.alloc(), b'\n') {
-        number = number.saturating_add(1);
-        if !do_line(rt, &mut engine, number, line?.as_slice())? {
-            well_formed = false;
-        }
+    let mut form = Ok(());
+    let lines = BufReader::new(rt.alloc(), journal)?.split(rt.alloc(), b'\n');
+    for (index, line) in lines.enumerate() {
+        let number = index.saturating_add(1);
+        form = form.and(do_line(rt, &mut engine, number, line?.as_slice())?);
     }
-    Ok(well_formed)
+    Ok(form?)
 }
 
-fn do_file(rt: &HostRuntime, path: &str) -> anyhow::Result<bool> {
-    match File::open(rt, path) {
-        Ok(file) => Ok(do_journal(rt, file)?),
-        Err(error) => {
-            let journal = Quoted(path);
-            Err(anyhow!(format!(in rt.alloc(); "cannot read journal {journal}: {error}")?))
-        }
-    }
+fn do_file(rt: &HostRuntime, path: &str) -> anyhow::Result<()> {
+    let file = File::open(rt, path).map_err(|error| anyhow!(
+        "cannot read journal {}: {error}",
+        Quoted(path)
+    ))?;
+    do_journal(rt, file)
 }
 
 // The journal is the file that the first argument names, or else standard input.
 fn run(rt: &HostRuntime) -> anyhow::Result<()> {
-    let mut args = env::args(rt)?;
-    let _program = args.next();
-    let well_formed = match args.next() {
-        None => do_journal(rt, rt.stdin())?,
-        Some(arg) => {
-            if arg.as_str() == "--help" {
-                return Ok(help::print(rt)?);
-            }
-            do_file(rt, arg.as_str())?
-        }
-    };
-    if well_formed {
-        Ok(())
-    } else {
-        Err(anyhow!("a line of the journal is malformed"))
+    match env::args(rt)?.nth(1) {
+        None => do_journal(rt, rt.stdin()),
+        Some(arg) if arg.as_str() == "--help" => Ok(help::print(rt)?),
+        Some(arg) => do_file(rt, arg.as_str()),
     }
 }
 

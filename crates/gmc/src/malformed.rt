@@ -1,20 +1,38 @@
 // Why a line of the journal cannot be done.
+use std::alloc::AllocError;
 use std::fmt;
+use thiserror::Error;
 
-#[derive(Clone, Copy)]
+#[derive(Debug, Drop, Error)]
 pub enum Malformed<'a> {
+    #[error("the line is not text")]
     NotText,
+    #[error("unknown command {}", Quoted(.0))]
     UnknownCommand(&'a str),
+    #[error("unknown charge {}", Quoted(.0))]
     UnknownCharge(&'a str),
+    #[error("no exclusion for charge {}", Quoted(.0))]
     UnknownTable(&'a str),
+    #[error("unknown side {}", Quoted(.0))]
     UnknownSide(&'a str),
+    #[error("{0} is missing")]
     Missing(&'static str),
+    #[error("unexpected word {}", Quoted(.0))]
     Extra(&'a str),
+    #[error("no number that fits: {}", Quoted(.0))]
     NotNumber(&'a str),
+    #[error("the bytes are not in hexadecimal")]
     NotHexadecimal,
+    #[error("cannot read file {}", Quoted(.0))]
     Unreadable(&'a str),
-    NoMemory,
+    #[error("there is not enough memory")]
+    NoMemory(#[from] AllocError),
 }
+
+// How a journal ends that had such a line.
+#[derive(Debug, Drop, Error)]
+#[error("a line of the journal is malformed")]
+pub struct MalformedLine;
 
 // A word in quotes, or only its size where it is long.
 #[derive(Clone, Copy)]
@@ -28,24 +46,6 @@ impl fmt::Display for Quoted<'_> {
             write!(f, "{word:?}")
         } else {
             write!(f, "of {size} bytes")
-        }
-    }
-}
-
-impl fmt::Display for Malformed<'_> {
-    fn fmt<W: fmt::Write>(&self, f: &mut fmt::Formatter<W>) -> fmt::Result {
-        match self {
-            Malformed::NotText => write!(f, "the line is not text"),
-            Malformed::UnknownCommand(word) => write!(f, "unknown command {}", Quoted(word)),
-            Malformed::UnknownCharge(word) => write!(f, "unknown charge {}", Quoted(word)),
-            Malformed::UnknownTable(word) => write!(f, "no exclusion for charge {}", Quoted(word)),
-            Malformed::UnknownSide(word) => write!(f, "unknown side {}", Quoted(word)),
-            Malformed::Missing(name) => write!(f, "{name} is missing"),
-            Malformed::Extra(word) => write!(f, "unexpected word {}", Quoted(word)),
-            Malformed::NotNumber(word) => write!(f, "no number that fits: {}", Quoted(word)),
-            Malformed::NotHexadecimal => write!(f, "the bytes are not in hexadecimal"),
-            Malformed::Unreadable(path) => write!(f, "cannot read file {}", Quoted(path)),
-            Malformed::NoMemory => write!(f, "there is not enough memory"),
         }
     }
 }

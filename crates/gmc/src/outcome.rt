@@ -1,39 +1,52 @@
-// What a command is answered, as it is printed behind the line number.
+// What a command is answered, as it is printed behind the line number and the command's name.
+use crate::malformed::Malformed;
 use concessions::fault::ConcessionFault;
 use journal::entry::Answer;
 use sheet::fault::SheetFault;
 use std::fmt;
+use thiserror::Error;
 use yearbook::fault::BookFault;
 
-// With the command's name.
+// What an accepted command tells.
 #[derive(Clone, Copy)]
-pub enum Outcome {
-    Check(Result<usize, SheetFault>),
-    Open(Result<usize, BookFault>),
-    Entry(&'static str, Result<Answer, BookFault>),
-    Quote(Result<(u64, u64), BookFault>),
-    Balances(Result<(i64, u64), BookFault>),
-    Totals(i64, u64),
-    Concession(&'static str, Result<(), ConcessionFault>),
+pub enum Figures {
+    Nothing,
+    Count(usize),
+    Sum(u64),
+    Quote { quantity: u64, cents: u64 },
+    Balances { market: i64, rc: u64 },
 }
 
-impl fmt::Display for Outcome {
+// Why nothing was done.
+#[derive(Debug, Drop, Error)]
+pub enum Undone<'a> {
+    #[error("malformed {0}")]
+    Malformed(#[from] Malformed<'a>),
+    #[error("refused {0}")]
+    Sheet(#[from] SheetFault),
+    #[error("refused {0}")]
+    Book(#[from] BookFault),
+    #[error("refused {0}")]
+    Concession(#[from] ConcessionFault),
+}
+
+impl From<Answer> for Figures {
+    fn from(answer: Answer) -> Figures {
+        match answer {
+            Answer::Posted(sum) => Figures::Sum(sum),
+            Answer::Accepted => Figures::Nothing,
+        }
+    }
+}
+
+impl fmt::Display for Figures {
     fn fmt<W: fmt::Write>(&self, f: &mut fmt::Formatter<W>) -> fmt::Result {
         match *self {
-            Outcome::Check(Ok(rows)) => write!(f, "check ok {rows}"),
-            Outcome::Check(Err(fault)) => write!(f, "check refused {fault}"),
-            Outcome::Open(Ok(coordinators)) => write!(f, "open ok {coordinators}"),
-            Outcome::Open(Err(fault)) => write!(f, "open refused {fault}"),
-            Outcome::Entry(command, Ok(Answer::Posted(sum))) => write!(f, "{command} ok {sum}"),
-            Outcome::Entry(command, Ok(Answer::Accepted)) => write!(f, "{command} ok"),
-            Outcome::Entry(command, Err(fault)) => write!(f, "{command} refused {fault}"),
-            Outcome::Quote(Ok((quantity, cents))) => write!(f, "quote ok {quantity} {cents}"),
-            Outcome::Quote(Err(fault)) => write!(f, "quote refused {fault}"),
-            Outcome::Balances(Ok((market, rc))) => write!(f, "balances ok {market} {rc}"),
-            Outcome::Balances(Err(fault)) => write!(f, "balances refused {fault}"),
-            Outcome::Totals(market, rc) => write!(f, "totals ok {market} {rc}"),
-            Outcome::Concession(command, Ok(())) => write!(f, "{command} ok"),
-            Outcome::Concession(command, Err(fault)) => write!(f, "{command} refused {fault}"),
+            Figures::Nothing => write!(f, "ok"),
+            Figures::Count(count) => write!(f, "ok {count}"),
+            Figures::Sum(sum) => write!(f, "ok {sum}"),
+            Figures::Quote { quantity, cents } => write!(f, "ok {quantity} {cents}"),
+            Figures::Balances { market, rc } => write!(f, "ok {market} {rc}"),
         }
     }
 }

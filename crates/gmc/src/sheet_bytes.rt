@@ -11,38 +11,33 @@ use std::io::Read;
 // One byte more than the longest sheet: whatever is longer is refused all the same.
 const ENOUGH: u64 = 20_483;
 
-fn digit(byte: u8) -> Option<u8>
+fn digit(byte: u8) -> Option<u32>
     ensures value { result ≡ digit_of byte }
     ensures low { IfSome result (λ d. d < 16) }
 {
-    match byte {
-        b'0'..=b'9' => Some(byte - b'0'),
-        b'a'..=b'f' => Some(byte - b'a' + 10),
-        b'A'..=b'F' => Some(byte - b'A' + 10),
-        _ => None,
-    }
+    char::from(byte).to_digit(16)
 }
 
 fn pair(high: u8, low: u8) -> Option<u8>
     ensures { result ≡ byte_of high low }
 {
-    Some(digit(high)? * 16 + digit(low)?)
+    u8::try_from(digit(high)? * 16 + digit(low)?).ok()
+}
+
+// The byte of two digits; one alone has none.
+fn byte(digits: &[u8]) -> Option<u8> {
+    match *digits {
+        [high, low] => pair(high, low),
+        _ => None,
+    }
 }
 
 fn decode<'a>(heap: Global, digits: &'a str) -> Result<Vec<u8>, Malformed<'a>> {
-    let mut bytes = Vec::new(heap);
-    for two in digits.as_bytes().chunks(2) {
-        let [high, low] = *two else {
-            return Err(Malformed::NotHexadecimal);
-        };
-        let Some(byte) = pair(high, low) else {
-            return Err(Malformed::NotHexadecimal);
-        };
-        if bytes.push(byte).is_err() {
-            return Err(Malformed::NoMemory);
-        }
-    }
-    Ok(bytes)
+    digits
+        .as_bytes()
+        .chunks(2)
+        .map(|two| byte(two).ok_or(Malformed::NotHexadecimal))
+        .try_collect(heap)
 }
 
 fn read_file(rt: &HostRuntime, path: &str) -> io::Result<Vec<u8>> {
@@ -52,11 +47,8 @@ fn read_file(rt: &HostRuntime, path: &str) -> io::Result<Vec<u8>> {
 }
 
 pub fn read<'a>(rt: &HostRuntime, source: &'a str) -> Result<Vec<u8>, Malformed<'a>> {
-    if let Some(digits) = source.strip_prefix("hex:") {
-        return decode(rt.alloc(), digits);
-    }
-    match read_file(rt, source) {
-        Ok(bytes) => Ok(bytes),
-        Err(_) => Err(Malformed::Unreadable(source)),
+    match source.strip_prefix("hex:") {
+        Some(digits) => decode(rt.alloc(), digits),
+        None => read_file(rt, source).map_err(|_| Malformed::Unreadable(source)),
     }
 }

@@ -1,7 +1,7 @@
 -- The year law, of the book that the code's calls leave.
-use Rattle.std.proofs.Common.{◌≡◌, List, [], ◌∷◌, ◌++◌, Some, None, Ok, Err, Option, Result, sym, refl, ap, ◌∙◌, subst, arith}
-use Rattle.questions.specs.Questions.{Refusal, acceptance, answer, told}
-use Rattle.questions.proofs.Asked.{by_refusal, ok_answer, err_answer}
+use Rattle.std.proofs.Common.{◌≡◌, List, [], ◌∷◌, ◌++◌, Some, None, Result, sym, refl, ap, ◌∙◌, subst, arith}
+use Rattle.questions.specs.Questions.{Refusal}
+use Rattle.questions.proofs.Asked.{by_refusal}
 use Rattle.year.specs.Terms.{Terms, count, open_refusal}
 use Rattle.year.specs.Rc.{default}
 use Rattle.year.specs.Book.{Book, Call, of_rc, opened, refusal, settled, step, run, accepted_calls}
@@ -12,12 +12,8 @@ use Rattle.year.specs.Year.{after}
 use Rattle.year.specs.Consequences.{four}
 use Rattle.year.proofs.Year.{year_law}
 use Rattle.year.proofs.Consequences.{each_of, sums_of}
-use Rattle.yearbook.specs.declared.fault.BookFault.{BookFault}
-use Rattle.yearbook.specs.Faults.{book_fault}
-use Rattle.yearbook.specs.Taken.{Taken, Done}
 use Rattle.journal.specs.declared.entry.Answer.{Answer}
-use Rattle.journal.specs.declared.entry.Answer.TheVariants.{Accepted}
-use Rattle.journal.specs.Entries.{answer_to, answers_to, as_answer, written, year_answers}
+use Rattle.journal.specs.Entries.{answers_to, written, year_answers}
 use Rattle.yearbook.specs.View.{unopened}
 use Rattle.journal.specs.Kept.{KeptYear, Continued, Kept, AnyYear, begun, unbegun, KeptInParts}
 
@@ -39,16 +35,7 @@ run_more b (call ∷ earlier) calls = run_more (step b call) earlier calls
 pub continued : (before : Book) (calls : List Call) (now : Book) → now ≡ run before calls → Continued before calls now
 continued before calls now e t ok earlier is = kept_year t ok (earlier ++ calls) now (e ∙ ap (λ (b : Book). run b calls) is ∙ sym (run_more (opened t) earlier calls))
 
-same_answer : (x : Result (Unit {0}) BookFault) (o : Option Refusal) → told book_fault x ≡ acceptance o → told book_fault (as_answer x) ≡ answer o Accepted
-same_answer (Ok u) o e = rw (ok_answer o tt u e)
-same_answer (Err f) o e = rw (err_answer o tt (book_fault f) e)
-
--- a call that answers nothing but that it was accepted
-pub accepted_entry : (b : Book) (call : Call) (b' : Book) (x : Result (Unit {0}) BookFault) (r : Result Answer BookFault) → Done b call b' (told book_fault x) → answer_to b call ≡ Accepted → r ≡ as_answer x →
-    Taken b call (answer_to b call) b' (told book_fault r)
-accepted_entry b call b' x r done is e = record { answered = ap (told book_fault) e ∙ same_answer x (refusal b call) done.answered ∙ ap (answer (refusal b call)) (sym is); left = done.left }
-
-nothing_written : {X : Type 0} (old : List X) → old ≡ written old []
+pub nothing_written : {X : Type 0} (old : List X) → old ≡ written old []
 nothing_written [] = refl
 nothing_written (x ∷ old) = refl
 

@@ -1,6 +1,7 @@
 // One entry of a year, and what it is answered.
 use yearbook::side::Side;
 
+// Day, rate and sheet make no struct: the book takes them one by one, and a quote has no day.
 #[derive(Drop)]
 pub enum Entry<'a, R> {
     Post {

@@ -4,29 +4,28 @@ ghost use Rattle.questions.specs.Questions.{acceptance, told};
 ghost use Rattle.year.specs.Book.{run};
 ghost use Rattle.year.specs.Terms.{open_refusal};
 ghost use Rattle.yearbook.specs.Faults.{book_fault};
-ghost use Rattle.yearbook.specs.Taken.{Taken, Unaltered};
+ghost use Rattle.yearbook.specs.Taken.{Unaltered};
 ghost use Rattle.yearbook.specs.View.{book_of};
-ghost use Rattle.journal.specs.Entries.{answer_to, answers_to, as_answer, call_of, written, year_answers};
+ghost use Rattle.journal.specs.Entries.{answers_to, as_answer, call_of, written, year_answers};
+ghost use Rattle.journal.specs.Taken.{EntryTaken, given};
 ghost use Rattle.journal.specs.Kept.{Continued, Kept, KeptInParts};
 
 use crate::entry::{Answer, Entry};
 use charges::rule::ChargeRule;
 use yearbook::book::YearBook;
 use yearbook::fault::BookFault;
+use yearbook::terms::Terms;
 
 // What an entry without figures is answered.
 fn accepted(answer: Result<(), BookFault>) -> Result<Answer, BookFault>
     ensures { result ≡ as_answer answer }
 {
-    match answer {
-        Ok(()) => Ok(Answer::Accepted),
-        Err(fault) => Err(fault),
-    }
+    answer.map(|()| Answer::Accepted)
 }
 
-// Calls the book as the entry says.
+// Calls the book as the entry says. Apart from `enter`, so that the law is proved once and not in each arm.
 fn call<R: ChargeRule>(book: &mut YearBook, entry: &Entry<'_, R>) -> Result<Answer, BookFault>
-    ensures called { Taken (book_of book.old) (call_of R.code R.quantity entry.now) (answer_to (book_of book.old) (call_of R.code R.quantity entry.now)) (book_of book.new) (told book_fault result) }
+    ensures called { EntryTaken book.old (call_of R.code R.quantity entry.now) book.new result }
     ensures unaltered { Unaltered result book.old book.new }
 {
     match entry {
@@ -35,10 +34,7 @@ fn call<R: ChargeRule>(book: &mut YearBook, entry: &Entry<'_, R>) -> Result<Answ
             day,
             rate,
             sheet,
-        } => match book.post(*rule, *day, *rate, *sheet) {
-            Ok(sum) => Ok(Answer::Posted(sum)),
-            Err(fault) => Err(fault),
-        },
+        } => book.post(*rule, *day, *rate, *sheet).map(Answer::Posted),
         Entry::Adjust {
             coordinator,
             amount,
@@ -56,7 +52,7 @@ fn call<R: ChargeRule>(book: &mut YearBook, entry: &Entry<'_, R>) -> Result<Answ
 // Takes one entry. If the book was what an opening and some calls leave, it then is what these and the entry leave, and
 // the year law holds of it.
 pub fn enter<R: ChargeRule>(book: &mut YearBook, entry: &Entry<'_, R>) -> Result<Answer, BookFault>
-    ensures taken { Taken (book_of book.old) (call_of R.code R.quantity entry.now) (answer_to (book_of book.old) (call_of R.code R.quantity entry.now)) (book_of book.new) (told book_fault result) }
+    ensures taken { EntryTaken book.old (call_of R.code R.quantity entry.now) book.new result }
     ensures unaltered { Unaltered result book.old book.new }
     ensures law { Continued (book_of book.old) (call_of R.code R.quantity entry.now ∷ []) (book_of book.new) }
 {
@@ -73,37 +69,37 @@ pub fn enter_all<R: ChargeRule>(
     ensures answered { map (told book_fault) answers.new ≡ written (map (told book_fault) answers.old) (answers_to (book_of book.old) (map (call_of R.code R.quantity) entries.now)) }
     ensures law { Continued (book_of book.old) (map (call_of R.code R.quantity) entries.now) (book_of book.new) }
 {
-    for i in 0..entries.len() {
-        let answer = enter(book, &entries[i]);
-        if i < answers.len() {
-            answers[i] = answer;
+    for (place, entry) in entries.iter().enumerate() {
+        let answer = enter(book, entry);
+        // Of a write through `get_mut` a proof learns only the length, so that the answers could not be proved.
+        if place < answers.len() {
+            answers[place] = answer;
         }
     }
 }
 
 // Opens the book for a year. A refused opening leaves it.
-pub fn open_year(book: &mut YearBook, demands: &[u32], flags: &[u8]) -> Result<(), BookFault>
-    ensures opened { told book_fault result ≡ acceptance (open_refusal (record { demands = demands.now; flags = flags.now })) }
+pub fn open_year(book: &mut YearBook, terms: Terms<'_>) -> Result<(), BookFault>
+    ensures opened { told book_fault result ≡ acceptance (open_refusal (given terms.entry)) }
     ensures unaltered { Unaltered result book.old book.new }
-    ensures law { Kept (open_refusal (record { demands = demands.now; flags = flags.now })) (record { demands = demands.now; flags = flags.now }) [] (book_of book.old) (book_of book.new) }
+    ensures law { Kept (open_refusal (given terms.entry)) (given terms.entry) [] (book_of book.old) (book_of book.new) }
 {
-    book.open(demands, flags)
+    book.open(terms)
 }
 
 // Opens the book and takes a year's entries in turn. A refused opening leaves the book and the answers.
 pub fn keep_year<R: ChargeRule>(
     book: &mut YearBook,
-    demands: &[u32],
-    flags: &[u8],
+    terms: Terms<'_>,
     entries: &[Entry<'_, R>],
     answers: &mut [Result<Answer, BookFault>],
 ) -> Result<(), BookFault>
-    ensures opened { told book_fault result ≡ acceptance (open_refusal (record { demands = demands.now; flags = flags.now })) }
+    ensures opened { told book_fault result ≡ acceptance (open_refusal (given terms.entry)) }
     ensures unaltered { Unaltered result book.old book.new }
-    ensures law { Kept (open_refusal (record { demands = demands.now; flags = flags.now })) (record { demands = demands.now; flags = flags.now }) (map (call_of R.code R.quantity) entries.now) (book_of book.old) (book_of book.new) }
-    ensures answered { map (told book_fault) answers.new ≡ written (map (told book_fault) answers.old) (year_answers (open_refusal (record { demands = demands.now; flags = flags.now })) (record { demands = demands.now; flags = flags.now }) (map (call_of R.code R.quantity) entries.now)) }
+    ensures law { Kept (open_refusal (given terms.entry)) (given terms.entry) (map (call_of R.code R.quantity) entries.now) (book_of book.old) (book_of book.new) }
+    ensures answered { map (told book_fault) answers.new ≡ written (map (told book_fault) answers.old) (year_answers (open_refusal (given terms.entry)) (given terms.entry) (map (call_of R.code R.quantity) entries.now)) }
 {
-    open_year(book, demands, flags)?;
+    open_year(book, terms)?;
     enter_all(book, entries, answers);
     Ok(())
 }

@@ -4,7 +4,7 @@ use Rattle.std.proofs.lemmas.Bool.{cases_eq}
 use Rattle.questions.specs.Questions.{Refusal, no_at, ask, first, in_turn, answer}
 
 pub some_none : {X : Type 0} {x : X} → Some x ≡ None → ⊥
-some_none h = let z : ◌≡◌ {A = ℕ} 0 1 = cc in omega arith
+some_none h = cc
 
 -- by what was asked: nothing refused, or a refusal
 pub by_refusal : {P : Type 0} (o : Option Refusal) → (o ≡ None → P) → ((r : Refusal) → o ≡ Some r → P) → P
@@ -14,12 +14,12 @@ by_refusal (Some r) passed refused = refused r refl
 pub ask_passed : (yes_to : Bool) (q p : ℕ) (rest : Option Refusal) → ask yes_to q p rest ≡ None → (yes_to ≡ true) × (rest ≡ None)
 unfolding ask
 ask_passed true q p rest h = (refl, h)
-ask_passed false q p rest h = absurd (some_none h)
+ask_passed false q p rest h = cc
 
 pub first_passed : (o rest : Option Refusal) → first o rest ≡ None → (o ≡ None) × (rest ≡ None)
 unfolding first
 first_passed None rest h = (refl, h)
-first_passed (Some r) rest h = absurd (some_none h)
+first_passed (Some r) rest h = cc
 
 module _ (asked : ℕ → Option Refusal) where
   -- nothing was refused below i, and not at i
@@ -53,7 +53,7 @@ module _ (asked : ℕ → Option Refusal) where
   -- the place of the first no
   pub turn_first : (n : ℕ) (r : Refusal) → in_turn n asked ≡ Some r → (i : ℕ) × (i < n) × (in_turn i asked ≡ None) × (asked i ≡ Some r)
   unfolding in_turn first
-  turn_first zero r e = absurd (some_none (sym e))
+  turn_first zero r e = cc
   turn_first (suc n) r e =
       by_refusal (in_turn n asked)
       (λ ok. (n, omega arith, ok, (rw ok at e)))
@@ -69,10 +69,10 @@ turn_same (suc n) asked asked' h = ap₂ first (turn_same n asked asked' (λ k l
 
 pub ok_answer : {T : Type 0} (o : Option Refusal) (value x : T) → Ok x ≡ answer o value → o ≡ None
 ok_answer None value x e = refl
-ok_answer (Some r) value x e = absurd (let z : ◌≡◌ {A = ℕ} 0 1 = cc in omega arith)
+ok_answer (Some r) value x e = cc
 
 pub err_answer : {T : Type 0} (o : Option Refusal) (value : T) (r : Refusal) → Err r ≡ answer o value → o ≡ Some r
-err_answer None value r e = absurd (let z : ◌≡◌ {A = ℕ} 0 1 = cc in omega arith)
+err_answer None value r e = cc
 err_answer (Some s) value r e = cc
 
 -- the questions of a part that refused, or passed, before those behind it

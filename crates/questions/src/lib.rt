@@ -1,6 +1,8 @@
 // How a call asks its questions: a refusal names the question, the layer that asks it and the place.
 #![tactic(auto)]
 
+pub mod fault;
+
 use std::fmt;
 
 // The part of the engine that asks a question.
@@ -14,12 +16,11 @@ pub enum Layer {
 
 impl fmt::Display for Layer {
     fn fmt<W: fmt::Write>(&self, f: &mut fmt::Formatter<W>) -> fmt::Result {
-        let name = match self {
+        f.write_str(match self {
             Layer::Sheet => "sheet",
             Layer::Book => "book",
             Layer::Rc => "RC",
             Layer::Concession => "concession",
-        };
-        write!(f, "{name}")
+        })
     }
 }

@@ -1,5 +1,5 @@
 -- What an accepted sheet keeps to: at most 2,048 rows, keys that ascend strictly, keys in range, quantities within bounds.
-use Rattle.std.proofs.Common.{◌≡◌, ℕ, suc, ◌+◌, ◌*◌, ◌<◌, ◌≤◌, true, false, eqb, leb, List, length, is_some, Some, None, Option, refl, arith}
+use Rattle.std.proofs.Common.{◌≡◌, ℕ, suc, ◌+◌, ◌*◌, ◌<◌, ◌≤◌, true, false, eqb, leb, List, length, is_some, Some, None, Option, refl}
 use Rattle.std.proofs.lemmas.Bool.{and_parts, leb-true, eqb-true}
 use Rattle.questions.specs.Questions.{Refusal, in_turn}
 use Rattle.questions.proofs.Asked.{ask_passed, first_passed, turn_at}
@@ -11,7 +11,7 @@ use Rattle.sheet.specs.Sheets.{Passes}
 
 none_if : (o : Option Refusal) → is_some o ≡ false → o ≡ None
 none_if None e = refl
-none_if (Some r) e = absurd (let z : ◌≡◌ {A = ℕ} 0 1 = cc in omega arith)
+none_if (Some r) e = cc
 
 pub nothing_refused : (bytes : List ℕ) → Accepted bytes → sheet_refusal bytes ≡ None
 nothing_refused bytes ok = none_if (sheet_refusal bytes) ok
@@ -34,9 +34,6 @@ module _ (bytes : List ℕ) (ok : Accepted bytes) where
   count_passed =
       let p = first_passed _ _ (nothing_refused bytes ok) in
       and_parts (leb 2 (length bytes)) (leb (row_count bytes) 2048) (ask_passed _ _ _ _ p.0).0
-
-  pub two_bytes : 2 ≤ length bytes
-  two_bytes = leb-true 2 (length bytes) count_passed.0
 
   pub few_rows : row_count bytes ≤ 2048
   few_rows = leb-true (row_count bytes) 2048 count_passed.1

@@ -1,6 +1,6 @@
 -- The answer of check is the row count or the first no.
-use Rattle.std.proofs.Common.{◌≡◌, ℕ, zero, suc, ◌+◌, ◌*◌, ◌<◌, Bool, true, false, ◌&&◌, eqb, leb, ◌⊎◌, List, length, Some, None, Ok, Err, Option, Result, sym, refl, ap, ◌∙◌, subst, inl, inr, ⊎_elim, arith}
-use Rattle.std.proofs.lemmas.Bool.{and_parts, leb-true, eqb-true, eq-eqb, le-leb, both_ways, cases_eq, cases_lt}
+use Rattle.std.proofs.Common.{◌≡◌, ℕ, zero, suc, ◌+◌, ◌*◌, ◌<◌, Bool, true, false, ◌&&◌, eqb, leb, List, length, Some, None, Ok, Err, Option, Result, sym, refl, ap, ◌∙◌, subst, ⊎_elim, arith}
+use Rattle.std.proofs.lemmas.Bool.{and_parts, leb-true, eqb-true, eq-eqb, le-leb, both_ways, cases_eq, cases_order}
 use Rattle.questions.specs.Questions.{Refusal, no_at, in_turn, answer}
 use Rattle.questions.proofs.Asked.{ask_passed, ask_yes, ask_no, first_none, first_refused, by_refusal, turn_at, turn_first, some_none}
 use Rattle.sheet.specs.declared.row.Key.{Key}
@@ -173,9 +173,6 @@ same_turn (Bounded i) (Bounded k) e = same_place 5 i k (omega arith)
 never_both : (bytes : List ℕ) (n : ℕ) (r : Refusal) → FirstAskedNo bytes (Ok n) → FirstAskedNo bytes (Err r) → ⊥
 never_both bytes n r h g = g.3 (h.1 g.0 (rw h.0 g.1))
 
-three_ways : (a b : ℕ) → (a ≡ b) ⊎ ((a < b) ⊎ (b < a))
-three_ways a b = elim (cases_eq a b) [ inl e ↦ inl e | inr n ↦ elim (cases_lt a b) [ inl l ↦ inr (inl l) | inr g ↦ inr (inr (omega arith)) ] ]
-
 pub first_asked_no_decides : FirstAskedNoDecides
 first_asked_no_decides bytes (Ok n) (Ok m) h g = ap Ok (h.0 ∙ sym g.0)
 first_asked_no_decides bytes (Ok n) (Err s) h g = absurd (never_both bytes n s h g)
@@ -184,4 +181,4 @@ first_asked_no_decides bytes (Err r) (Err s) h g =
     ⊎_elim
     (λ same. ap Err (h.2 ∙ same_turn h.0 g.0 same ∙ sym g.2))
     (⊎_elim (λ less. absurd (h.3 (g.4 h.0 less))) (λ more. absurd (g.3 (h.4 g.0 more))))
-    (three_ways (turn h.0) (turn g.0))
+    (cases_order (turn h.0) (turn g.0))

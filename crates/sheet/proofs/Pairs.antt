@@ -1,6 +1,6 @@
 -- The rows of an accepted sheet, and a pair's among them.
 use Rattle.std.proofs.Common.{◌≡◌, ℕ, suc, ◌+◌, ◌<◌, ◌≤◌, Bool, true, false, cond, ◌&&◌, eqb, ltb, ◌⊎◌, List, [], ◌∷◌, length, get_or, pos, nat_abs, filter, sym, refl, ap, ◌∙◌, subst, subst₂, inl, inr, zero-add, add-one, arith}
-use Rattle.std.specs.List.{AllByRecursion}
+use Rattle.std.specs.List.{All, AllByRecursion}
 use Rattle.std.proofs.lemmas.List.FromFn.{length-map-range_with_len, get_or-map-range_with_len}
 use Rattle.std.proofs.ByRecursion.{All-from_get_or, all_kept_by, kept_by_passes}
 use Rattle.std.proofs.lemmas.List.Sums.{length-filter, count_by-le-length}
@@ -28,6 +28,9 @@ pub all_rows : (bytes : List ℕ) (P : Row → Type 0) → ((i : ℕ) → i < ro
 all_rows bytes P h =
     All-from_get_or P (rows bytes) no_row
     (λ i l. let w : i < row_count bytes = omega (arith, length_rows bytes) in subst P (sym (row_by_place bytes i no_row w)) (h i w))
+
+pub each_row : (bytes : List ℕ) (P : Row → Type 0) → All P (rows bytes) → AllByRecursion P (rows bytes)
+each_row bytes P h = All-from_get_or P (rows bytes) no_row (λ i l. h i no_row l)
 
 -- ---- what a row that passes keeps to
 

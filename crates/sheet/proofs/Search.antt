@@ -1,13 +1,14 @@
 -- Where the rows of an accepted sheet pass from before a pair's to behind.
 use Rattle.std.proofs.Common.{◌≡◌, ℕ, zero, suc, ◌+◌, ◌<◌, ◌≤◌, Bool, true, false, ltb, ◌⊎◌, List, [], ◌∷◌, ◌++◌, length, get_or, take, drop, filter, sym, refl, ap, ◌∙◌, subst, inl, inr, append-nil, arith}
 use Rattle.std.specs.List.{AllByRecursion}
+use Rattle.std.specs.List.Sorted.{IsPartitionPoint, IsPartitionedBy}
 use Rattle.std.proofs.lemmas.List.Elements.{filter-append}
 use Rattle.std.proofs.ByRecursion.{All-from_get_or, all_kept_by, kept_by_passes}
 use Rattle.std.proofs.lemmas.List.{get_or-drop, get_or-take, length-drop, length-take-le, take-append-drop}
-use Rattle.std.proofs.lemmas.Bool.{cases_Bool, cases_eq, both_ways, lt-ltb, le-ltb, ne_eqb}
+use Rattle.std.proofs.lemmas.Bool.{cases_eq, cases_lt, lt-ltb, le-ltb, ne_eqb}
 use Rattle.std.proofs.lemmas.Bool.Decides.{nat_tests}
 use Rattle.sheet.specs.declared.row.Row.{Row}
-use Rattle.sheet.specs.Rows.{row_count, row_at, rows, pair_rows, of_pair, before_pair}
+use Rattle.sheet.specs.Rows.{row_count, row_at, rows, pair_rows, of_pair, key_at, key_before, before_pair}
 use Rattle.sheet.specs.Questions.{below, key_bytes, Accepted}
 use Rattle.sheet.proofs.Accepted.{key_above}
 use Rattle.sheet.proofs.Pairs.{length_rows, row_by_place, no_row, all_rows, below_cases, below_trans, pair_kept}
@@ -39,14 +40,6 @@ before_down : (coordinator resource : ℕ) (a b : Row) → UpTo a b → before_p
 before_down coordinator resource a b (inl l) h = grind (arith, nat_tests)
 before_down coordinator resource a b (inr e) h = grind (arith, nat_tests)
 
--- the rows below n stand before the pair's
-abbrev pub Before : List ℕ → ℕ → ℕ → ℕ → Type 0
-Before bytes coordinator resource n = (i : ℕ) → i < n → before_pair coordinator resource (row_at bytes i) ≡ true
-
--- those from n on do not
-abbrev pub Behind : List ℕ → ℕ → ℕ → ℕ → Type 0
-Behind bytes coordinator resource n = (i : ℕ) → n ≤ i → i < row_count bytes → before_pair coordinator resource (row_at bytes i) ≡ false
-
 module _ (bytes : List ℕ) (ok : Accepted bytes) where
   abbrev key : ℕ → List ℕ
   key i = key_bytes (row_at bytes i).key
@@ -61,27 +54,34 @@ module _ (bytes : List ℕ) (ok : Accepted bytes) where
   pub rows_up_to : (i j : ℕ) → i < j → j < row_count bytes → UpTo (row_at bytes i) (row_at bytes j)
   rows_up_to i j l h = below_up_to (row_at bytes i) (row_at bytes j) (later_above i j l h)
 
-  module _ (coordinator resource : ℕ) where
-    pub before_more : (n : ℕ) → n < row_count bytes → before_pair coordinator resource (row_at bytes n) ≡ true → Before bytes coordinator resource (n + 1)
-    before_more n h e i l = elim (cases_eq i n) [
-      | inl z ↦ rw z e
-      | inr z ↦ before_down coordinator resource (row_at bytes i) (row_at bytes n) (rows_up_to i n (omega arith) h) e
-    ]
-
-    pub behind_more : (n : ℕ) → before_pair coordinator resource (row_at bytes n) ≡ false → Behind bytes coordinator resource n
-    behind_more n e i l h = elim (cases_eq i n) [
-      | inl z ↦ rw z e
-      | inr z ↦ elim (cases_Bool (before_pair coordinator resource (row_at bytes i))) [
-        | inl t ↦ absurd (both_ways _ e (before_down coordinator resource (row_at bytes n) (row_at bytes i) (rows_up_to n i (omega arith) h) t))
-        | inr f ↦ f
-      ]
-    ]
-
 -- ---- rows of the pair
 
 -- n is the first row that does not stand before the pair's
 abbrev pub First : List ℕ → ℕ → ℕ → ℕ → Type 0
 First bytes coordinator resource n = (i : ℕ) → i < row_count bytes → before_pair coordinator resource (row_at bytes i) ≡ ltb i n
+
+-- the key in the six bytes stands before the pair's
+abbrev pub bytes_before : ℕ → ℕ → List ℕ → Bool
+bytes_before coordinator resource key = key_before coordinator resource (key_at key 0)
+
+-- the place that a search over the keys tells
+module _ (bytes : List ℕ) (ok : Accepted bytes) (coordinator resource : ℕ) (keys : List (List ℕ)) (long : length keys ≡ row_count bytes) (each : (i : ℕ) (d : List ℕ) → i < row_count bytes → key_at (get_or keys i d) 0 ≡ (row_at bytes i).key) where
+  here : (i : ℕ) (d : List ℕ) → i < row_count bytes → bytes_before coordinator resource (get_or keys i d) ≡ before_pair coordinator resource (row_at bytes i)
+  here i d h = ap (key_before coordinator resource) (each i d h)
+
+  pub keys_parted : IsPartitionedBy (bytes_before coordinator resource) keys
+  keys_parted i j d u l h = elim (cases_eq i j) [
+    | inl e ↦ rw e h
+    | inr e ↦
+        let inside : j < row_count bytes = omega arith in
+        here i d (omega arith) ∙ before_down coordinator resource (row_at bytes i) (row_at bytes j) (rows_up_to bytes ok i j (omega arith) inside) (sym (here j d inside) ∙ h)
+  ]
+
+  pub first_by_keys : (n : ℕ) → IsPartitionPoint (λ key. bytes_before coordinator resource key ≡ true) (λ key. bytes_before coordinator resource key ≡ false) keys n → First bytes coordinator resource n
+  first_by_keys n point i h = elim (cases_lt i n) [
+    | inl l ↦ sym (here i [] h) ∙ point.0 i [] (omega arith) l ∙ sym (lt-ltb i n l)
+    | inr l ↦ sym (here i [] h) ∙ point.1 i [] l (omega arith) ∙ sym (le-ltb i n l)
+  ]
 
 before_not : (coordinator resource : ℕ) (r : Row) → before_pair coordinator resource r ≡ true → of_pair coordinator resource r ≡ false
 before_not coordinator resource r h = grind (arith, nat_tests)

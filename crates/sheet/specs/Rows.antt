@@ -1,5 +1,5 @@
 -- What the bytes of a day sheet say: its row count and its rows; one coordinator's rows and one pair's.
-use Rattle.std.specs.Prelude.{ℕ, ◌+◌, ◌*◌, Bool, ◌&&◌, ◌||◌, List, map, ℤ, filter, ◌==◌, nat_eq, nat_lt, slice_index}
+use Rattle.std.specs.Prelude.{ℕ, ◌+◌, ◌*◌, ◌≤◌, Bool, ◌&&◌, ◌||◌, List, map, ℤ, filter, ◌==◌, nat_eq, nat_lt, slice_index}
 use Rattle.std.specs.Int.{w32}
 use Rattle.std.proofs.Common.{to_z}
 use Rattle.std.specs.List.{range_with_len}
@@ -38,6 +38,10 @@ row_at bytes i = record {
 abbrev pub rows : List ℕ → List Row
 rows bytes = map (row_at bytes) (range_with_len 0 (row_count bytes))
 
+-- the part is a byte, as it is on every sheet
+abbrev pub PartIsByte : Row → Type 0
+PartIsByte r = r.key.part ≤ 255
+
 -- one coordinator's rows, in order
 abbrev pub own_rows : ℕ → List Row → List Row
 own_rows coordinator rs = filter (λ r. nat_eq r.key.coordinator coordinator) rs
@@ -54,6 +58,9 @@ pair_rows coordinator resource rs = resource_rows resource (own_rows coordinator
 abbrev pub of_pair : ℕ → ℕ → Row → Bool
 of_pair coordinator resource r = r.key.coordinator == coordinator && r.key.resource == resource
 
--- the row stands before the pair's: under a lower coordinator, or the same one and a lower resource
+-- a row with the key stands before the pair's: under a lower coordinator, or the same one and a lower resource
+abbrev pub key_before : ℕ → ℕ → Key → Bool
+key_before coordinator resource key = nat_lt key.coordinator coordinator || (key.coordinator == coordinator && nat_lt key.resource resource)
+
 abbrev pub before_pair : ℕ → ℕ → Row → Bool
-before_pair coordinator resource r = nat_lt r.key.coordinator coordinator || (r.key.coordinator == coordinator && nat_lt r.key.resource resource)
+before_pair coordinator resource r = key_before coordinator resource r.key

@@ -1,13 +1,19 @@
 -- What an accepted sheet holds, and what its rows keep to.
-use Rattle.std.specs.Prelude.{◌≡◌, ℕ, true, List, [], ◌∷◌}
+use Rattle.std.specs.Prelude.{◌≡◌, ℕ, true, List, [], ◌∷◌, Some, None, Result, MatchResult}
 use Rattle.std.specs.List.{AllByRecursion}
+use Rattle.sheet.specs.declared.fault.SheetFault.{SheetFault}
 use Rattle.sheet.specs.declared.row.Row.{Row}
 use Rattle.sheet.specs.declared.sheet.Sheet.{Sheet}
+use Rattle.sheet.specs.Faults.{sheet_fault}
 use Rattle.sheet.specs.Rows.{rows}
-use Rattle.sheet.specs.Questions.{below, key_bytes, in_range, within}
+use Rattle.sheet.specs.Questions.{below, key_bytes, in_range, within, sheet_refusal}
 
 abbrev pub sheet_rows : Sheet → List Row
 sheet_rows s = rows s.bytes.now
+
+-- the sheet in bytes that pass every question, or the first no
+abbrev pub SheetOf : List ℕ → Result Sheet SheetFault → Type 0
+SheetOf bytes read = MatchResult read (λ sheet. (sheet_refusal bytes ≡ None) × (sheet.bytes.now ≡ bytes)) (λ fault. sheet_refusal bytes ≡ Some (sheet_fault fault))
 
 -- each row's key is below that of every later row
 abbrev pub Ascending : List Row → Type 0

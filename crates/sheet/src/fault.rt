@@ -4,6 +4,7 @@ ghost use Rattle.sheet.specs.Faults.{row_fault, sheet_fault};
 ghost use Rattle.sheet.specs.declared.fault.SheetFault.TheVariants.{Row};
 
 use questions::Layer;
+use questions::fault::{Fault, write_fault};
 use std::fmt;
 
 // Each holds the row, from 0.
@@ -29,10 +30,10 @@ impl From<RowFault> for SheetFault {
     }
 }
 
-impl RowFault {
-    pub fn question(&self) -> u8
-        ensures { result ≡ (row_fault self.now).question }
-    {
+impl Fault for RowFault {
+    ghost refusal = { row_fault };
+
+    fn question(&self) -> u8 {
         match self {
             RowFault::NotAbove(_) => 3,
             RowFault::OutOfRange(_) => 4,
@@ -40,15 +41,17 @@ impl RowFault {
         }
     }
 
-    pub fn place(&self) -> usize
-        ensures { result ≡ (row_fault self.now).place }
-    {
+    fn layer(&self) -> Layer {
+        Layer::Sheet
+    }
+
+    fn place(&self) -> usize {
         match *self {
             RowFault::NotAbove(row) | RowFault::OutOfRange(row) | RowFault::TooLarge(row) => row,
         }
     }
 
-    pub fn reason(&self) -> &'static str {
+    fn reason(&self) -> &'static str {
         match self {
             RowFault::NotAbove(_) => "the key is not above the one before it",
             RowFault::OutOfRange(_) => "coordinator, hour, interval or kind is out of range",
@@ -57,10 +60,10 @@ impl RowFault {
     }
 }
 
-impl SheetFault {
-    pub fn question(&self) -> u8
-        ensures { result ≡ (sheet_fault self.now).question }
-    {
+impl Fault for SheetFault {
+    ghost refusal = { sheet_fault };
+
+    fn question(&self) -> u8 {
         match self {
             SheetFault::Count => 1,
             SheetFault::Length => 2,
@@ -68,22 +71,21 @@ impl SheetFault {
         }
     }
 
-    pub fn layer(&self) -> Layer
-        ensures { result ≡ (sheet_fault self.now).layer }
-    {
-        Layer::Sheet
+    fn layer(&self) -> Layer {
+        match self {
+            SheetFault::Count | SheetFault::Length => Layer::Sheet,
+            SheetFault::Row(fault) => fault.layer(),
+        }
     }
 
-    pub fn place(&self) -> usize
-        ensures { result ≡ (sheet_fault self.now).place }
-    {
+    fn place(&self) -> usize {
         match self {
             SheetFault::Count | SheetFault::Length => 0,
             SheetFault::Row(fault) => fault.place(),
         }
     }
 
-    pub fn reason(&self) -> &'static str {
+    fn reason(&self) -> &'static str {
         match self {
             SheetFault::Count => "there is no row count of at most 2,048",
             SheetFault::Length => "the length does not fit the row count",
@@ -92,13 +94,8 @@ impl SheetFault {
     }
 }
 
-// Question, layer, place, and what was wrong.
 impl fmt::Display for SheetFault {
     fn fmt<W: fmt::Write>(&self, f: &mut fmt::Formatter<W>) -> fmt::Result {
-        let question = self.question();
-        let layer = self.layer();
-        let place = self.place();
-        let reason = self.reason();
-        write!(f, "{question} {layer} {place} {reason}")
+        write_fault(self, f)
     }
 }

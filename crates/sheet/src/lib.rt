@@ -3,5 +3,9 @@
 
 pub mod check;
 pub mod fault;
+pub mod kind;
+pub mod pair;
 pub mod row;
+pub mod rows;
 pub mod sheet;
+mod table;

@@ -1,6 +1,11 @@
 // A row of the sheet: a key of six bytes, and a quantity in kWh.
-ghost use Rattle.std.specs.Prelude.{◌≡◌, ◌+◌, ◌*◌, ◌<◌, ◌≤◌, length};
-ghost use Rattle.sheet.specs.Rows.{before_pair, key_at, of_pair, quantity_at, row_at, row_count};
+ghost use Rattle.std.specs.Prelude.{◌≡◌, true};
+ghost use Rattle.sheet.specs.Kinds.{is_kind};
+ghost use Rattle.sheet.specs.Questions.{known_kind};
+ghost use Rattle.sheet.specs.Rows.{key_at, key_before, of_pair};
+
+use crate::kind::Kind;
+use crate::pair::Pair;
 
 #[derive(Clone, Copy, PartialEq, Eq, PartialOrd, Ord, Debug)]
 pub struct Key {
@@ -9,6 +14,7 @@ pub struct Key {
     pub hour: u8,
     pub interval: u8,
     pub part: u8,
+    // A byte and no `Kind`: keys go by their bytes, and one that has passed no question may hold any.
     pub kind: u8,
 }
 
@@ -18,15 +24,10 @@ pub struct Row {
     pub quantity: i32,
 }
 
-impl Key {
-    // The key in the six bytes from `at`.
-    fn read(bytes: &[u8], at: usize) -> Key
-        requires { at + 6 ≤ length bytes.now }
-        ensures { result ≡ key_at bytes.now at }
-    {
-        let &[coordinator, resource, hour, interval, part, kind] = &bytes[at..at + 6] else {
-            unreachable()
-        };
+impl From<[u8; 6]> for Key {
+    ghost from_gives = { λ bytes key. key ≡ key_at bytes 0 };
+
+    fn from([coordinator, resource, hour, interval, part, kind]: [u8; 6]) -> Key {
         Key {
             coordinator,
             resource,
@@ -38,40 +39,47 @@ impl Key {
     }
 }
 
-// The quantity in the four bytes from `at`.
-fn read_quantity(bytes: &[u8], at: usize) -> i32
-    requires { at + 4 ≤ length bytes.now }
-    ensures { result ≡ quantity_at bytes.now at }
-{
-    i32::from_be_bytes([bytes[at], bytes[at + 1], bytes[at + 2], bytes[at + 3]])
-}
-
-impl Row {
-    // Row `i` of a sheet of `count` rows.
-    pub(crate) fn read(bytes: &[u8], count: usize, i: usize) -> Row
-        requires counted { count ≡ row_count bytes.now }
-        requires measured { length bytes.now ≡ 2 + 10 * count }
-        requires here { i < count }
-        ensures { result ≡ row_at bytes.now i }
+impl Key {
+    // The pair that a row with the key is of.
+    fn pair(&self) -> Pair
+        ensures coordinator { result.coordinator ≡ self.now.coordinator }
+        ensures resource { result.resource ≡ self.now.resource }
     {
-        Row {
-            key: Key::read(bytes, 2 + 6 * i),
-            quantity: read_quantity(bytes, 2 + 6 * count + 4 * i),
+        Pair {
+            coordinator: usize::from(self.coordinator),
+            resource: self.resource,
         }
     }
 
-    // Whether the row is one of the pair's.
-    pub fn is_of(&self, coordinator: usize, resource: u8) -> bool
-        ensures { result ≡ of_pair coordinator resource self.now }
+    // Whether a row with the key stands before the pair's.
+    pub(crate) fn is_before(&self, pair: Pair) -> bool
+        ensures { result ≡ key_before pair.coordinator pair.resource self.now }
     {
-        usize::from(self.key.coordinator) == coordinator && self.key.resource == resource
+        self.pair() < pair
+    }
+}
+
+impl Row {
+    // What the row tells of. An accepted sheet's rows have no unknown kinds.
+    pub fn kind(&self) -> Kind
+        requires { known_kind self.now.key.kind ≡ true }
+        ensures { is_kind result self.now.key.kind ≡ true }
+    {
+        Kind::try_from(self.key.kind).unwrap()
     }
 
-    // Whether the row stands before the pair's.
-    pub(crate) fn is_before(&self, coordinator: usize, resource: u8) -> bool
-        ensures { result ≡ before_pair coordinator resource self.now }
+    // The pair that the row is of.
+    pub fn pair(&self) -> Pair
+        ensures coordinator { result.coordinator ≡ self.now.key.coordinator }
+        ensures resource { result.resource ≡ self.now.key.resource }
     {
-        let own = usize::from(self.key.coordinator);
-        own < coordinator || (own == coordinator && self.key.resource < resource)
+        self.key.pair()
+    }
+
+    // Whether the row is one of the pair's.
+    pub fn is_of(&self, pair: Pair) -> bool
+        ensures { result ≡ of_pair pair.coordinator pair.resource self.now }
+    {
+        self.pair() == pair
     }
 }

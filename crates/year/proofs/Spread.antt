@@ -8,7 +8,7 @@ use Rattle.std.proofs.lemmas.List.{get_or_past}
 use Rattle.std.proofs.lemmas.Bool.{cases_lt}
 use Rattle.charges.specs.Sums.{total}
 use Rattle.year.specs.Spread.{quotient, carried, share, spread, SpreadLawForAll}
-use Rattle.year.proofs.Sums.{total_more, total_more_zero, total_map_more}
+use Rattle.year.proofs.Sums.{total_more, total_next, total_take_le, total_more_zero, total_map_more}
 
 -- ---- quotients
 
@@ -22,7 +22,7 @@ unfolding quotient
 quotient_none a zero h = refl
 quotient_none a (suc w) h = absurd (omega arith)
 
-quotient_zero : (w : ℕ) → quotient 0 w ≡ 0
+pub quotient_zero : (w : ℕ) → quotient 0 w ≡ 0
 unfolding quotient
 quotient_zero zero = refl
 quotient_zero (suc w) = zero-div (suc w)
@@ -123,3 +123,30 @@ spread_law u ws = record {
   nothing = λ z k. ap (λ v. get_or (spread v ws) k 0) z ∙ nothing_to_spread ws k;
   weightless = weightless u ws;
 }
+
+-- ---- an amount on its way
+
+-- the first k weights have had their shares
+pub record Underway (u : ℕ) (ws : List ℕ) (k amount whole sum : ℕ) : Type 0 where
+  pub amount_is : amount ≡ u
+  pub whole_is : whole ≡ total ws
+  pub sum_is : sum ≡ total (take k ws)
+
+module _ (u : ℕ) (ws : List ℕ) (k amount whole sum : ℕ) (way : Underway u ws k amount whole sum) (here : k < length ws) where
+  -- the next weight is among them
+  pub next_within : sum + get_or ws k 0 ≤ whole
+  next_within =
+      let m = total_next ws k here in
+      let l = total_take_le (k + 1) ws in
+      let s = way.sum_is in
+      let w = way.whole_is in
+      omega arith
+
+  pub next_way : Underway u ws (k + 1) amount whole (sum + get_or ws k 0)
+  next_way = let m = total_next ws k here in let s = way.sum_is in record { amount_is = way.amount_is; whole_is = way.whole_is; sum_is = omega arith }
+
+  -- and its share is that of the spread
+  pub next_share : quotient (amount * (sum + get_or ws k 0)) whole - quotient (amount * sum) whole ≡ get_or (spread u ws) k 0
+  next_share =
+      let n : sum + get_or ws k 0 ≡ total (take (suc k) ws) = rw add-one at next_way.sum_is in
+      rw (n, way.sum_is, way.amount_is, way.whole_is) (sym (spread_at u ws k here))

@@ -1,9 +1,10 @@
 -- Sums of lists, and of lists added place by place.
 use Rattle.std.proofs.Common.{◌≡◌, ℕ, zero, suc, ◌+◌, ◌*◌, ◌<◌, ◌≤◌, List, [], ◌∷◌, ◌++◌, map, length, get_or, take, set, replicate, ℤ, pos, ◌+ℤ◌, sym, refl, ap, ◌∙◌, not-suc-le-zero, zero-add, mul-suc, add-one, arith}
 use lib.IntN.{+ℤ_idl}
-use Rattle.std.specs.List.{range_with_len}
+use Rattle.std.specs.List.{range_with_len, sum_by}
 use Rattle.std.proofs.lemmas.List.FromFn.{map-range_with_len_more}
 use Rattle.std.proofs.lemmas.Int.{ints}
+use Rattle.std.proofs.lemmas.List.Sums.{sum_by-cons}
 use Rattle.charges.specs.Sums.{total, total_z}
 use Rattle.year.specs.Plus.{plus, plus_z}
 
@@ -100,3 +101,8 @@ total_zeros (suc n) = zero-add _ ∙ total_zeros n
 pub total_z_zeros : (n : ℕ) → total_z (replicate n (pos 0)) ≡ pos 0
 total_z_zeros zero = refl
 total_z_zeros (suc n) = +ℤ_idl _ ∙ total_z_zeros n
+
+-- the sum that std's chains give
+pub sum_by_is : {X : Type 0} (f : X → ℕ) (xs : List X) → sum_by f xs ≡ total (map f xs)
+sum_by_is f [] = refl
+sum_by_is f (x ∷ xs) = sum_by-cons f x xs ∙ ap (λ n. f x + n) (sum_by_is f xs)

@@ -9,18 +9,14 @@ ghost use Rattle.year.specs.Spread.{SpreadLawForAll};
 ghost use Rattle.year.specs.Year.{YearLawForAll};
 
 // The law of spreading.
-pub fn spread_law_holds() -> u8
+pub fn spread_law_holds()
     ensures { SpreadLawForAll }
-{
-    0
-}
+{}
 
 // The year law: what holds after every list of calls.
-pub fn year_law_holds() -> u8
+pub fn year_law_holds()
     ensures { YearLawForAll }
-{
-    0
-}
+{}
 
 // What the year law comes to.
 pub fn consequences_hold()
@@ -28,8 +24,6 @@ pub fn consequences_hold()
 {}
 
 // The worked examples.
-pub fn examples_hold() -> u8
+pub fn examples_hold()
     ensures { Examples }
-{
-    0
-}
+{}

@@ -1,58 +1,129 @@
--- Assessing.
-use Rattle.std.proofs.Common.{◌≡◌, ℕ, ◌-◌, ◌*◌, ◌<◌, ◌≤◌, true, false, cond, not, ◌&&◌, eqb, leb, List, [], ◌∷◌, map, length, get_or, take, ℤ, is_some, Some, None, count_by, sym, refl, ap, ◌∙◌, ap₂, add_assoc, arith}
-use Rattle.std.proofs.lemmas.List.{length-take-le, length-map}
+-- Spreading over the coordinators, and assessing.
+use Rattle.std.proofs.Common.{◌≡◌, ℕ, suc, ◌+◌, ◌-◌, ◌*◌, ◌<◌, ◌≤◌, Bool, true, false, cond, not, ◌&&◌, ◌||◌, eqb, leb, List, [], ◌∷◌, map, length, get_or, take, set, is_some, Some, None, count_by, sym, refl, ap, ◌∙◌, ap₂, inl, inr, arith}
+use Rattle.std.proofs.lemmas.Bool.{and_parts, leb-true, cases_lt, ne_eqb, eq-eqb, le-ltb, lt-ltb}
+use Rattle.std.proofs.lemmas.List.{length-map, get_or-map, get_or-set_same, get_or-set_other}
+use Rattle.std.proofs.lemmas.List.Sums.{sum_by-cons}
+use Rattle.charges.specs.Sums.{total}
 use Rattle.questions.specs.Questions.{no_at}
 use Rattle.questions.proofs.Asked.{ask_yes, ask_no}
-use Rattle.charges.specs.Sums.{total}
 use Rattle.year.specs.Plus.{plus}
-use Rattle.year.specs.Spread.{spread}
+use Rattle.year.specs.Spread.{quotient, spread}
 use Rattle.year.specs.Terms.{flagged}
 use Rattle.year.specs.Rc.{assess, charge_of, minimums, rest, assessment, spreadable, assess_refusal, rc_effect}
 use Rattle.year.specs.Book.{Book, of_rc, refusal, effect}
-use Rattle.year.proofs.Sums.{zero_not_suc, total_plus, length_plus}
-use Rattle.year.proofs.Spread.{spread_law, length_spread}
+use Rattle.year.proofs.Sums.{get_or_plus, get_or_le_total, length_plus, total_plus}
 use Rattle.year.proofs.Passed.{AssessPassed, assess_passed}
 use Rattle.year.proofs.Rc.{total_of_flags}
-use Rattle.yearbook.specs.declared.account.Account.{Account}
+use Rattle.year.proofs.Spread.{Underway, length_spread, next_within, next_way, next_share, quotient_none, spread_at, spread_law}
+use Rattle.yearbook.specs.declared.coordinator.Coordinator.{Coordinator}
+use Rattle.yearbook.specs.Coordinators.{nobody, demand_of, flag_of, market_of, rc_of, demands, flags, markets, rcs, terms_in, rc_raised, each_with}
 use Rattle.yearbook.specs.declared.book.YearBook.{YearBook}
-use Rattle.yearbook.specs.Accounts.{empty_account, markets, rcs, rc_raised, each_with}
 use Rattle.yearbook.specs.View.{view, book_of}
-use Rattle.yearbook.proofs.Raised.{rcs_raised, markets_rc_raised, length_raise}
-use Rattle.yearbook.proofs.Sides.{Bounded, rcs_long, bounded_same, rc_low, front}
-use Rattle.yearbook.proofs.Views.{book_with, count_is, fit}
+use Rattle.yearbook.proofs.Columns.{Keeps, bounded_same}
+use Rattle.yearbook.proofs.Raised.{rcs_raised, map_raised, length_raise}
+use Rattle.yearbook.proofs.Views.{view_is}
 
-plus_assoc : (xs ms ys : List ℕ) → length ms ≡ length ys → plus (plus xs ms) ys ≡ plus xs (plus ms ys)
-plus_assoc [] ms ys h = refl
-plus_assoc (x ∷ xs) [] [] h = refl
-plus_assoc (x ∷ xs) [] (y ∷ ys) h = absurd (zero_not_suc h)
-plus_assoc (x ∷ xs) (m ∷ ms) [] h = absurd (zero_not_suc (sym h))
-plus_assoc (x ∷ xs) (m ∷ ms) (y ∷ ys) h = ap₂ (λ (z : ℕ) (zs : List ℕ). z ∷ zs) (add_assoc x m y) (plus_assoc xs ms ys (omega arith))
+flag_is_one : (b : Bool) → eqb (cond b 1 0) 1 ≡ b
+flag_is_one true = refl
+flag_is_one false = refl
 
-module _ (s : YearBook) (wide : length s.demands ≡ 64) (flags_wide : length s.flags ≡ 64) (charge minimum : ℕ) where
+-- the flagged coordinators, as the code counts them
+pub flagged_are : (t : List Coordinator) → count_by (λ c. c.flagged) t ≡ flagged (terms_in t)
+unfolding flagged
+flagged_are [] = refl
+flagged_are (c ∷ t) =
+    sum_by-cons (λ x. cond x.flagged 1 0) c t
+    ∙ ap₂ (λ (b : Bool) (n : ℕ). cond b 1 0 + n) (sym (flag_is_one c.flagged)) (flagged_are t)
+    ∙ sym (sum_by-cons (λ flag. cond (eqb flag 1) 1 0) (flag_of c) (map flag_of t))
+
+module _ (t : List Coordinator) (charge minimum : ℕ) where
+  pub minimums_long : length (minimums (terms_in t) minimum) ≡ length t
+  unfolding minimums
+  minimums_long = length-map (flags t) _ ∙ length-map t flag_of
+
+  minimum_at : (k : ℕ) → k < length t → get_or (minimums (terms_in t) minimum) k 0 ≡ cond (get_or t k nobody).flagged minimum 0
+  unfolding minimums
+  minimum_at k w =
+      let l = length-map t flag_of in
+      get_or-map (λ flag. cond (eqb flag 1) minimum 0) (flags t) k 0 0 (omega arith)
+      ∙ ap (λ flag. cond (eqb flag 1) minimum 0) (get_or-map flag_of t k nobody 0 w)
+      ∙ ap (λ (b : Bool). cond b minimum 0) (flag_is_one (get_or t k nobody).flagged)
+
+  -- the amount of a coordinator, as the code adds it
+  pub assessment_at : (k : ℕ) → k < length t →
+      get_or (assessment (terms_in t) charge minimum) k 0 ≡ cond (get_or t k nobody).flagged minimum 0 + get_or (spread (rest (terms_in t) charge minimum) (demands t)) k 0
+  unfolding assessment
+  assessment_at k w =
+      get_or_plus (minimums (terms_in t) minimum) (spread (rest (terms_in t) charge minimum) (demands t)) k (minimums_long ∙ sym (length-map t demand_of) ∙ sym (length_spread _ (demands t)))
+      ∙ ap (λ n. n + get_or (spread (rest (terms_in t) charge minimum) (demands t)) k 0) (minimum_at k w)
+
+  pub assessment_long : length (assessment (terms_in t) charge minimum) ≡ length t
+  unfolding assessment
+  assessment_long = length_plus _ _ ∙ minimums_long
+
+  pub minimums_total : total (minimums (terms_in t) minimum) ≡ minimum * flagged (terms_in t)
+  unfolding minimums flagged
+  minimums_total = total_of_flags minimum (flags t)
+
+  pub minimum_low : minimum * flagged (terms_in t) ≤ charge → (k : ℕ) → k < length t → cond (get_or t k nobody).flagged minimum 0 ≤ charge
+  minimum_low enough k w = omega (arith, minimum_at k w, get_or_le_total (minimums (terms_in t) minimum) k, minimums_total)
+
+-- ---- one step of an amount on its way
+
+module _ (u : ℕ) (ws : List ℕ) (k amount whole sum : ℕ) (way : Underway u ws k amount whole sum) (here : k < length ws) (x : ℕ) (x_is : x ≡ get_or ws k 0) where
+  pub step_within : sum + x ≤ whole
+  step_within = rw x_is (next_within u ws k amount whole sum way here)
+
+  pub step_way : (amount' whole' sum' : ℕ) → amount' ≡ amount → whole' ≡ whole → sum' ≡ sum + x → Underway u ws (k + 1) amount' whole' sum'
+  step_way amount' whole' sum' a w s = rw (a, w, s, x_is) (next_way u ws k amount whole sum way here)
+
+  pub step_share : (r : ℕ) → r ≡ quotient (amount * (sum + x)) whole - quotient (amount * sum) whole → r ≡ get_or (spread u ws) k 0
+  step_share r e = e ∙ ap (λ (y : ℕ). quotient (amount * (sum + y)) whole - quotient (amount * sum) whole) x_is ∙ next_share u ws k amount whole sum way here
+
+-- no share is more than the amount
+pub spread_low : (u : ℕ) (ws : List ℕ) (k : ℕ) → k < length ws → get_or (spread u ws) k 0 ≤ u
+spread_low u ws k here = elim (cases_lt 0 (total ws)) [
+  | inl p ↦ omega (arith, get_or_le_total (spread u ws) k, (spread_law u ws).whole (inr p))
+  | inr z ↦ omega (arith, spread_at u ws k here, quotient_none (u * total (take (suc k) ws)) (total ws) (omega arith))
+]
+
+module _ (t : List Coordinator) (debtor place : ℕ) (here : place < length t) where
+  pub weight_of_debtor : place ≡ debtor → get_or (set (demands t) debtor 0) place 0 ≡ 0
+  weight_of_debtor e =
+      let l = length-map t demand_of in
+      let w : debtor < length (demands t) = omega arith in
+      rw e (get_or-set_same (demands t) debtor 0 0 w)
+
+  pub weight_of_other : (place ≡ debtor → ⊥) → get_or (set (demands t) debtor 0) place 0 ≡ (get_or t place nobody).demand
+  weight_of_other n = get_or-set_other (demands t) debtor place 0 0 n ∙ get_or-map demand_of t place nobody 0 here
+
+-- ---- assessing: its questions
+
+pub spread_no : (u : ℕ) (ws : List ℕ) → 0 < u → total ws ≡ 0 → spreadable u ws ≡ false
+unfolding spreadable
+spread_no u ws h z = rw (ne_eqb u 0 (λ e. omega arith), le-ltb 0 (total ws) (omega arith)) refl
+
+or_right : (x : Bool) {y : Bool} → y ≡ true → (x || y) ≡ true
+or_right true h = refl
+or_right false h = h
+
+pub spread_nothing : (u : ℕ) (ws : List ℕ) → u ≡ 0 → spreadable u ws ≡ true
+unfolding spreadable
+spread_nothing u ws h = rw (eq-eqb u 0 h) refl
+
+pub spread_carried : (u : ℕ) (ws : List ℕ) → 0 < total ws → spreadable u ws ≡ true
+unfolding spreadable
+spread_carried u ws h = or_right (eqb u 0) (lt-ltb 0 (total ws) h)
+
+module _ (s : YearBook) (charge minimum : ℕ) where
   abbrev b : Book
   b = book_of s
 
-  abbrev n : ℕ
-  n = s.count
+  abbrev t : List Coordinator
+  t = s.coordinators.items
 
-  abbrev t : List Account
-  t = s.accounts.table
-
-  flags_long : length (take n s.flags) ≡ n
-  flags_long = let f = s.few in length-take-le n s.flags (omega arith)
-
-  pub front_flags_long : length (take (n - 0) s.flags) ≡ n
-  front_flags_long = ap length (front n s.flags) ∙ flags_long
-
-  pub front_demands_long : length (take (n - 0) s.demands) ≡ n
-  front_demands_long = ap length (front n s.demands) ∙ count_is s wide
-
-  -- the flagged coordinators, as the code counts them
-  pub flagged_is : count_by (λ flag. eqb flag 1) (take (n - 0) s.flags) ≡ flagged b.terms
-  unfolding flagged
-  flagged_is = ap (count_by (λ flag. eqb flag 1)) (front n s.flags)
-
-  -- ---- its questions
+  abbrev fits : Bool
+  fits = leb charge 2000000000 && leb minimum 2000000000 && leb (minimum * flagged b.terms) charge
 
   pub assess_15 : is_some s.charge ≡ true → refusal b (of_rc (assess charge minimum)) ≡ Some (no_at 15 0)
   unfolding assess_refusal
@@ -62,18 +133,21 @@ module _ (s : YearBook) (wide : length s.demands ≡ 64) (flags_wide : length s.
     first_yes : not (is_some s.charge) ≡ true
     first_yes = rw unassessed
 
-    pub assess_16 : (leb charge 2000000000 && leb minimum 2000000000 && leb (minimum * flagged b.terms) charge) ≡ false → refusal b (of_rc (assess charge minimum)) ≡ Some (no_at 16 0)
+    pub assess_16 : fits ≡ false → refusal b (of_rc (assess charge minimum)) ≡ Some (no_at 16 0)
     unfolding assess_refusal
     assess_16 e = ask_yes 15 0 _ first_yes ∙ ask_no 16 0 _ e
 
-    module _ (fits : (leb charge 2000000000 && leb minimum 2000000000 && leb (minimum * flagged b.terms) charge) ≡ true) where
+    module _ (ok : fits ≡ true) where
       pub assess_17 : spreadable (rest b.terms charge minimum) b.terms.demands ≡ false → refusal b (of_rc (assess charge minimum)) ≡ Some (no_at 17 0)
       unfolding assess_refusal
-      assess_17 e = ask_yes 15 0 _ first_yes ∙ ask_yes 16 0 _ fits ∙ ask_no 17 0 _ e
+      assess_17 e = ask_yes 15 0 _ first_yes ∙ ask_yes 16 0 _ ok ∙ ask_no 17 0 _ e
 
       pub assess_none : spreadable (rest b.terms charge minimum) b.terms.demands ≡ true → refusal b (of_rc (assess charge minimum)) ≡ None
       unfolding assess_refusal
-      assess_none e = ask_yes 15 0 _ first_yes ∙ ask_yes 16 0 _ fits ∙ ask_yes 17 0 _ e
+      assess_none e = ask_yes 15 0 _ first_yes ∙ ask_yes 16 0 _ ok ∙ ask_yes 17 0 _ e
+
+      pub assess_enough : minimum * flagged b.terms ≤ charge
+      assess_enough = leb-true _ charge (and_parts _ _ ok).1
 
   -- ---- its effect
 
@@ -81,83 +155,46 @@ module _ (s : YearBook) (wide : length s.demands ≡ 64) (flags_wide : length s.
     pub passed : AssessPassed b.terms b.rc charge minimum
     passed = assess_passed b.terms b.rc charge minimum ok
 
-    minimums_total : total (minimums b.terms minimum) ≡ minimum * flagged b.terms
-    unfolding minimums flagged
-    minimums_total = total_of_flags minimum (take n s.flags)
+    -- nothing is owed before assessing
+    pub unowed : total (rcs t) ≡ 0
+    unowed = let o = s.owed in let z : charge_of s.charge ≡ 0 = ap charge_of passed.unassessed in omega arith
 
-    module _ (t₁ t₂ : List Account) (mins shares : List ℕ) (m_is : mins ≡ minimums b.terms minimum) (s_is : shares ≡ spread (rest b.terms charge minimum) b.terms.demands)
-        (first : t₁ ≡ each_with rc_raised t mins) (second : t₂ ≡ each_with rc_raised t₁ shares) where
-      mins_long : length mins ≡ n
-      unfolding minimums
-      mins_long = ap length m_is ∙ length-map (take n s.flags) _ ∙ flags_long
+    module _ (t' : List Coordinator) (raised : t' ≡ each_with rc_raised t (assessment b.terms charge minimum)) where
+      markets_are : markets t' ≡ markets t
+      markets_are = ap markets raised ∙ map_raised market_of rc_raised (λ x y. refl) t (assessment b.terms charge minimum)
 
-      shares_long : length shares ≡ n
-      shares_long = ap length s_is ∙ length_spread _ b.terms.demands ∙ count_is s wide
+      demands_are : demands t' ≡ demands t
+      demands_are = ap demands raised ∙ map_raised demand_of rc_raised (λ x y. refl) t (assessment b.terms charge minimum)
 
-      markets_are : markets n t₂ ≡ markets n t
-      markets_are = ap (markets n) second ∙ markets_rc_raised n t₁ shares ∙ ap (markets n) first ∙ markets_rc_raised n t mins
+      flags_are : flags t' ≡ flags t
+      flags_are = ap flags raised ∙ map_raised flag_of rc_raised (λ x y. refl) t (assessment b.terms charge minimum)
 
-      rcs₁ : rcs n t₁ ≡ plus (rcs n t) mins
-      rcs₁ = ap (rcs n) first ∙ rcs_raised n t mins
+      rcs_are : rcs t' ≡ plus (rcs t) (assessment b.terms charge minimum)
+      rcs_are = ap rcs raised ∙ rcs_raised t (assessment b.terms charge minimum)
 
-      rcs₂ : rcs n t₂ ≡ plus (plus (rcs n t) mins) shares
-      rcs₂ = ap (rcs n) second ∙ rcs_raised n t₁ shares ∙ ap (λ xs. plus xs shares) rcs₁
-
-      rcs_are : rcs n t₂ ≡ plus (rcs n t) (assessment b.terms charge minimum)
-      unfolding assessment
-      rcs_are = rcs₂ ∙ plus_assoc (rcs n t) mins shares (mins_long ∙ sym shares_long) ∙ ap₂ (λ (ms ss : List ℕ). plus (rcs n t) (plus ms ss)) m_is s_is
-
-      pub assess_left : view n t₂ s.demands s.flags s.posted (Some charge) ≡ effect b (of_rc (assess charge minimum))
+      pub assess_left : view t' s.posted (Some charge) ≡ effect b (of_rc (assess charge minimum))
       unfolding rc_effect
-      assess_left = ap₂ (λ (ms : List ℤ) (rs : List ℕ). book_with b.terms ms b.market.posted rs (Some charge)) markets_are rcs_are
+      assess_left = view_is t t' demands_are flags_are _ markets_are _ rcs_are s.posted _ refl (Some charge)
 
-      long₁ : length t₁ ≡ 64
-      long₁ = ap length first ∙ length_raise rc_raised t mins ∙ s.whole
-
-      long₂ : length t₂ ≡ 64
-      long₂ = ap length second ∙ length_raise rc_raised t₁ shares ∙ long₁
-
-      -- nothing is owed before assessing
-      total₀ : total (rcs n t) ≡ 0
-      total₀ = let o = s.owed in let z : charge_of s.charge ≡ 0 = ap charge_of passed.unassessed in omega arith
-
-      total₁ : total (rcs n t₁) ≡ minimum * flagged b.terms
-      total₁ = ap total rcs₁ ∙ (let lr = rcs_long n t (fit s wide) in let lm = mins_long in omega (arith, total_plus (rcs n t) mins (omega arith), total₀, ap total m_is, minimums_total))
-
-      shares_total : total shares ≡ rest b.terms charge minimum
-      shares_total = ap total s_is ∙ (spread_law _ b.terms.demands).whole passed.carriers
-
-      total₂ : total (rcs n t₂) ≡ charge
-      total₂ =
-          let lr = rcs_long n t (fit s wide) in
-          let ll = length_plus (rcs n t) mins in
-          let ls = shares_long in
-          let p = total_plus (plus (rcs n t) mins) shares (omega arith) in
-          let q = sym (ap total rcs₁) ∙ total₁ in
-          let w = shares_total in
+      total_is : total (rcs t') ≡ charge
+      unfolding assessment
+      total_is =
+          let lr = length-map t rc_of in
+          let la = assessment_long t charge minimum in
+          let lm = minimums_long t charge minimum in
+          let ls = length_spread (rest b.terms charge minimum) b.terms.demands in
+          let ld = length-map t demand_of in
+          let p = total_plus (rcs t) (assessment b.terms charge minimum) (lr ∙ sym la) in
+          let q = total_plus (minimums b.terms minimum) (spread (rest b.terms charge minimum) b.terms.demands) (lm ∙ sym ld ∙ sym ls) in
+          let m = minimums_total t charge minimum in
+          let w = (spread_law (rest b.terms charge minimum) b.terms.demands).whole passed.carriers in
+          let z = unowed in
           let e = passed.enough in
-          ap total rcs₂ ∙ omega arith
+          ap total rcs_are ∙ omega arith
 
-      pub assess_keeps : (length t₂ ≡ 64) × Bounded n t₂ × (total (rcs n t₂) ≤ charge)
-      assess_keeps = let t2 = total₂ in (long₂, bounded_same n t t₂ s.few s.whole long₂ markets_are s.bounded, omega arith)
-
-      pub assess_room : (length mins ≤ 64) × ((j : ℕ) → j < length mins → (get_or t j empty_account).rc ≤ 4000000000) × (total mins ≤ 4000000000)
-      assess_room =
-          let lm = mins_long in let f = s.few in
-          let o : total (rcs n t) ≤ 0 = let z = total₀ in omega arith in
-          let e = passed.enough in let u = passed.bound in
-          let tm : total mins ≡ minimum * flagged b.terms = ap total m_is ∙ minimums_total in
-          (omega arith, λ j w. omega (arith, rc_low n t 0 (fit s wide) o j (omega arith)), omega arith)
-
-      pub assess_room₂ : (length shares ≤ 64) × ((j : ℕ) → j < length shares → (get_or t₁ j empty_account).rc ≤ 4000000000) × (total shares ≤ 4000000000)
-      assess_room₂ =
-          let ls = shares_long in let f = s.few in let l1 = long₁ in
-          let e = passed.enough in let u = passed.bound in
-          let o : total (rcs n t₁) ≤ charge = let z = total₁ in omega arith in
-          let w = shares_total in
-          (omega arith, λ j v. omega (arith, rc_low n t₁ charge (omega arith) o j (omega arith)), omega arith)
-
-  -- the minimums as the code makes them
-  pub minimums_are : (out : List ℕ) → take (length (take (n - 0) s.flags)) out ≡ map (λ flag. cond (eqb flag 1) minimum 0) (take (n - 0) s.flags) → take (n - 0) out ≡ minimums b.terms minimum
-  unfolding minimums
-  minimums_are out e = front n out ∙ ap (λ m. take m out) (sym front_flags_long) ∙ e ∙ ap (map (λ flag. cond (eqb flag 1) minimum 0)) (front n s.flags)
+      pub assess_keeps : Keeps t' charge
+      assess_keeps =
+          let l : length t' ≡ length t = ap length raised ∙ length_raise rc_raised t (assessment b.terms charge minimum) in
+          let f = s.few in
+          let z = total_is in
+          record { few = omega arith; bounded = bounded_same t t' l markets_are s.bounded; owed = omega arith; light = rw demands_are s.light }

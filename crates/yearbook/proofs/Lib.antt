@@ -1,9 +1,9 @@
 pub mod Assessing
+pub mod Columns
 pub mod Moves
 pub mod Opening
 pub mod Posting
 pub mod Raised
 pub mod RcCalls
-pub mod Sides
 pub mod Taken
 pub mod Views

@@ -1,20 +1,24 @@
 -- Adjustments and market payments.
-use Rattle.std.proofs.Common.{◌≡◌, ℕ, ◌^◌, ◌<◌, ◌≤◌, Bool, true, false, ◌&&◌, leb, List, length, get_or, set, ℤ, pos, ◌+ℤ◌, ◌-ℤ◌, neg_ℤ, nat_abs, Some, None, Err, Result, sym, refl, ap, ◌∙◌, ap₂, arith, w64, SFits, to_z, of_z}
+use Rattle.std.proofs.Common.{◌≡◌, ℕ, ◌^◌, ◌<◌, ◌≤◌, Bool, true, false, ◌&&◌, leb, List, length, get_or, set, ℤ, pos, ◌+ℤ◌, ◌-ℤ◌, neg_ℤ, nat_abs, Some, None, Err, Result, sym, refl, ap, ◌∙◌, arith, w64, SFits, to_z, of_z}
+use Rattle.std.proofs.lemmas.List.{length-set, map-set}
+use Rattle.std.proofs.Math.Seq.{map-set_same}
 use Rattle.std.proofs.lemmas.Int.{to_z-of_z, to_z_pos, ints}
 use Rattle.std.proofs.lemmas.Bool.{and_parts, leb-true, le-leb}
 use Rattle.questions.specs.Questions.{Refusal, no_at, acceptance}
 use Rattle.questions.proofs.Asked.{ask_yes, ask_no}
 use Rattle.sheet.specs.Questions.{within}
 use Rattle.year.specs.Market.{market_balance, adjust, pay_market, balance_refusal, adjust_refusal, pay_market_refusal, market_effect}
+use Rattle.charges.specs.Sums.{total}
+use Rattle.year.specs.Rc.{charge_of}
 use Rattle.year.specs.Book.{Book, of_market, settled}
-use Rattle.yearbook.specs.declared.account.Account.{Account}
+use Rattle.yearbook.specs.declared.coordinator.Coordinator.{Coordinator}
 use Rattle.yearbook.specs.declared.book.YearBook.{YearBook}
-use Rattle.yearbook.specs.Accounts.{empty_account, markets, rcs, market_moved}
+use Rattle.yearbook.specs.Coordinators.{nobody, demand_of, flag_of, market_of, rc_of, demands, flags, markets, rcs, market_at}
 use Rattle.yearbook.specs.Taken.{Done}
 use Rattle.yearbook.specs.View.{view, book_of, with_market}
-use Rattle.yearbook.proofs.Sides.{markets_set, rcs_kept}
+use Rattle.yearbook.proofs.Columns.{Keeps, bounded_set}
 use Rattle.yearbook.proofs.Taken.{taken_refused, taken_last}
-use Rattle.yearbook.proofs.Views.{book_with, fit, in_count, past_count, market_is}
+use Rattle.yearbook.proofs.Views.{book_with, view_is, in_count, past_count, market_is}
 
 pub refused_at : (k : ℕ) (z : ℤ) → within 1000000000000000 z ≡ false → balance_refusal k z ≡ Some (no_at 11 k)
 unfolding balance_refusal
@@ -24,54 +28,67 @@ pub passed_at : (k : ℕ) (z : ℤ) → within 1000000000000000 z ≡ true → b
 unfolding balance_refusal
 passed_at k z fits = ask_yes 11 k _ fits
 
-module _ (s : YearBook) (wide : length s.demands ≡ 64) (k : ℕ) where
+module _ (s : YearBook) (k : ℕ) where
+  abbrev t : List Coordinator
+  t = s.coordinators.items
+
   abbrev b : Book
   b = book_of s
 
   module _ (a : ℤ) where
-    pub refused_11 : k < s.count → within 1000000000000000 ((get_or s.accounts.table k empty_account).market +ℤ a) ≡ false → balance_refusal k (market_balance b.market k +ℤ a) ≡ Some (no_at 11 k)
-    refused_11 h out = refused_at k _ (rw (market_is s wide k h) out)
+    pub refused_11 : k < length t → within 1000000000000000 ((get_or t k nobody).market +ℤ a) ≡ false → balance_refusal k (market_balance b.market k +ℤ a) ≡ Some (no_at 11 k)
+    refused_11 h out = refused_at k _ (rw (market_is s k h) out)
 
-    pub passed_11 : k < s.count → within 1000000000000000 ((get_or s.accounts.table k empty_account).market +ℤ a) ≡ true → balance_refusal k (market_balance b.market k +ℤ a) ≡ None
-    passed_11 h fits = passed_at k _ (rw (market_is s wide k h) fits)
+    pub passed_11 : k < length t → within 1000000000000000 ((get_or t k nobody).market +ℤ a) ≡ true → balance_refusal k (market_balance b.market k +ℤ a) ≡ None
+    passed_11 h fits = passed_at k _ (rw (market_is s k h) fits)
 
-    pub moved_is : k < s.count → (t : List Account) → t ≡ set s.accounts.table k (market_moved (get_or s.accounts.table k empty_account) a) →
-        view s.count t s.demands s.flags s.posted s.charge ≡ with_market b k a
-    moved_is h t e =
-        ap₂ (λ (ms : List ℤ) (rs : List ℕ). book_with b.terms ms b.market.posted rs s.charge)
-        (ap (markets s.count) e ∙ markets_set s.count s.accounts.table k _ ∙ ap (λ z. set b.market.balances k (z +ℤ a)) (sym (market_is s wide k h)))
-        (ap (rcs s.count) e ∙ rcs_kept s.count s.accounts.table (fit s wide) k _ h refl)
+    pub moved_is : k < length t → (t' : List Coordinator) → t' ≡ set t k (market_at (get_or t k nobody) ((get_or t k nobody).market +ℤ a)) → view t' s.posted s.charge ≡ with_market b k a
+    moved_is h t' e =
+        let c : Coordinator = market_at (get_or t k nobody) ((get_or t k nobody).market +ℤ a) in
+        view_is t t' (ap demands e ∙ map-set_same demand_of t k c nobody refl) (ap flags e ∙ map-set_same flag_of t k c nobody refl)
+        _ (ap markets e ∙ map-set market_of t k c ∙ ap (λ z. set b.market.balances k (z +ℤ a)) (sym (market_is s k h)))
+        _ (ap rcs e ∙ map-set_same rc_of t k c nobody refl) s.posted _ refl s.charge
 
-    pub adjust_12 : s.count ≤ k → Done b (of_market (adjust k a)) b (Err (no_at 12 0))
+    pub moved_keeps : k < length t → within 1000000000000000 ((get_or t k nobody).market +ℤ a) ≡ true → (t' : List Coordinator) → t' ≡ set t k (market_at (get_or t k nobody) ((get_or t k nobody).market +ℤ a)) → Keeps t' (charge_of s.charge)
+    moved_keeps h fits t' e =
+        let c : Coordinator = market_at (get_or t k nobody) ((get_or t k nobody).market +ℤ a) in
+        record {
+          few = let l = ap length e ∙ length-set t k c in let f = s.few in omega arith;
+          bounded = rw e (bounded_set t k c fits s.bounded);
+          owed = let r = ap total (ap rcs e ∙ map-set_same rc_of t k c nobody refl) in let o = s.owed in omega arith;
+          light = let d = ap total (ap demands e ∙ map-set_same demand_of t k c nobody refl) in let l = s.light in omega arith;
+        }
+
+    pub adjust_12 : length t ≤ k → Done b (of_market (adjust k a)) b (Err (no_at 12 0))
     unfolding adjust_refusal
-    adjust_12 h = taken_refused b (of_market (adjust k a)) tt _ (ask_no 12 0 _ (past_count s wide k h))
+    adjust_12 h = taken_refused b (of_market (adjust k a)) tt _ (ask_no 12 0 _ (past_count s k h))
 
-    pub adjust_13 : k < s.count → within 1000000000000 a ≡ false → Done b (of_market (adjust k a)) b (Err (no_at 13 0))
+    pub adjust_13 : k < length t → within 1000000000000 a ≡ false → Done b (of_market (adjust k a)) b (Err (no_at 13 0))
     unfolding adjust_refusal
-    adjust_13 h out = taken_refused b (of_market (adjust k a)) tt _ (ask_yes 12 0 _ (in_count s wide k h) ∙ ask_no 13 0 _ out)
+    adjust_13 h out = taken_refused b (of_market (adjust k a)) tt _ (ask_yes 12 0 _ (in_count s k h) ∙ ask_no 13 0 _ out)
 
-    pub adjust_last : k < s.count → within 1000000000000 a ≡ true → (b' : Book) (said : Result (Unit {0}) Refusal) →
+    pub adjust_last : k < length t → within 1000000000000 a ≡ true → (b' : Book) (said : Result (Unit {0}) Refusal) →
         said ≡ acceptance (balance_refusal k (market_balance b.market k +ℤ a)) → b' ≡ settled (balance_refusal k (market_balance b.market k +ℤ a)) b (with_market b k a) →
         Done b (of_market (adjust k a)) b' said
     unfolding adjust_refusal market_effect
-    adjust_last h small b' said e w = taken_last b (of_market (adjust k a)) tt b' _ said (ask_yes 12 0 _ (in_count s wide k h) ∙ ask_yes 13 0 _ small) e w
+    adjust_last h small b' said e w = taken_last b (of_market (adjust k a)) tt b' _ said (ask_yes 12 0 _ (in_count s k h) ∙ ask_yes 13 0 _ small) e w
 
   module _ (a : ℕ) where
     abbrev in_bounds : Bool
     in_bounds = leb 1 a && leb a 1000000000000
 
-    pub pay_market_12 : s.count ≤ k → Done b (of_market (pay_market k a)) b (Err (no_at 12 0))
+    pub pay_market_12 : length t ≤ k → Done b (of_market (pay_market k a)) b (Err (no_at 12 0))
     unfolding pay_market_refusal
-    pay_market_12 h = taken_refused b (of_market (pay_market k a)) tt _ (ask_no 12 0 _ (past_count s wide k h))
+    pay_market_12 h = taken_refused b (of_market (pay_market k a)) tt _ (ask_no 12 0 _ (past_count s k h))
 
-    pub pay_market_13 : k < s.count → in_bounds ≡ false → Done b (of_market (pay_market k a)) b (Err (no_at 13 0))
+    pub pay_market_13 : k < length t → in_bounds ≡ false → Done b (of_market (pay_market k a)) b (Err (no_at 13 0))
     unfolding pay_market_refusal
-    pay_market_13 h out = taken_refused b (of_market (pay_market k a)) tt _ (ask_yes 12 0 _ (in_count s wide k h) ∙ ask_no 13 0 _ out)
+    pay_market_13 h out = taken_refused b (of_market (pay_market k a)) tt _ (ask_yes 12 0 _ (in_count s k h) ∙ ask_no 13 0 _ out)
 
     less_is : (z : ℤ) → z -ℤ pos a ≡ z +ℤ neg_ℤ (pos a)
     less_is z = omega (arith, ints)
 
-    pub pay_market_last : k < s.count → in_bounds ≡ true → (z : ℤ) → z ≡ neg_ℤ (pos a) → (b' : Book) (said : Result (Unit {0}) Refusal) →
+    pub pay_market_last : k < length t → in_bounds ≡ true → (z : ℤ) → z ≡ neg_ℤ (pos a) → (b' : Book) (said : Result (Unit {0}) Refusal) →
         said ≡ acceptance (balance_refusal k (market_balance b.market k +ℤ z)) → b' ≡ settled (balance_refusal k (market_balance b.market k +ℤ z)) b (with_market b k z) →
         Done b (of_market (pay_market k a)) b' said
     unfolding pay_market_refusal market_effect
@@ -79,7 +96,7 @@ module _ (s : YearBook) (wide : length s.demands ≡ 64) (k : ℕ) where
         let m : ℤ = market_balance b.market k in
         let moved : m +ℤ z ≡ m -ℤ pos a = ap (λ y. m +ℤ y) is ∙ sym (less_is m) in
         taken_last b (of_market (pay_market k a)) tt b' (balance_refusal k (m +ℤ z)) said
-        (ask_yes 12 0 _ (in_count s wide k h) ∙ ask_yes 13 0 _ fits ∙ ap (balance_refusal k) (sym moved)) e
+        (ask_yes 12 0 _ (in_count s k h) ∙ ask_yes 13 0 _ fits ∙ ap (balance_refusal k) (sym moved)) e
         (w ∙ ap (λ y. settled (balance_refusal k (m +ℤ z)) b (book_with b.terms (set b.market.balances k y) b.market.posted b.rc.balances s.charge)) moved)
 
 -- ---- a payment as a move, in the code's numbers

@@ -1,44 +1,89 @@
 -- A book as opened.
-use Rattle.std.proofs.Common.{◌≡◌, ℕ, zero, suc, ◌≤◌, Bool, false, List, ◌∷◌, map, length, get_or, take, replicate, ℤ, pos, None, sym, refl, ap, ◌∙◌, ap₂, inl, inr, arith}
-use Rattle.std.proofs.lemmas.List.{take-replicate, get_or-replicate, get_or_past}
-use Rattle.std.proofs.lemmas.Bool.{cases_lt}
+use Rattle.std.proofs.Common.{◌≡◌, ℕ, zero, suc, ◌+◌, ◌<◌, ◌≤◌, Bool, false, cond, eqb, List, [], ◌∷◌, ◌++◌, length, get_or, take, replicate, ℤ, pos, None, sym, refl, ap, ◌∙◌, ap₂, arith, take_all}
+use Rattle.std.proofs.lemmas.List.{length-map, length-replicate, map-append, get_or-replicate, replicate-append-replicate, take_more}
+use Rattle.std.proofs.lemmas.Bool.{and_parts, leb-true}
+use Rattle.questions.proofs.Asked.{ask_passed, turn_at}
 use Rattle.charges.specs.Sums.{total}
-use Rattle.year.specs.Terms.{Terms, open_refusal}
+use Rattle.year.specs.Terms.{Terms, terms_of, count, flag_at, coordinator_refusal, open_refusal}
 use Rattle.year.specs.Book.{opened, no_market, no_rc}
 use Rattle.year.proofs.Sums.{total_zeros}
 use Rattle.year.proofs.Passed.{open_passed}
-use Rattle.yearbook.specs.declared.account.Account.{Account}
-use Rattle.yearbook.specs.Accounts.{empty_account, market_of, rc_of, markets, rcs}
-use Rattle.yearbook.specs.View.{posted_in, view}
-use Rattle.yearbook.proofs.Sides.{Bounded}
-use Rattle.yearbook.proofs.Views.{nothing_posted, book_with}
+use Rattle.yearbook.specs.declared.coordinator.Coordinator.{Coordinator}
+use Rattle.yearbook.specs.Coordinators.{nobody, demand_of, flag_of, market_of, rc_of, demands, flags, markets, rcs, terms_in}
+use Rattle.yearbook.specs.View.{view}
+use Rattle.yearbook.proofs.Columns.{Bounded, markets_at}
+use Rattle.yearbook.proofs.Views.{nothing_posted}
 
-abbrev fresh : List Account
-fresh = replicate 64 empty_account
+module _ (t : Terms) (ok : open_refusal t ≡ None) (cs : List Coordinator) (e : terms_in cs ≡ t) (m : markets cs ≡ replicate (length t.demands) (pos 0)) (r : rcs cs ≡ replicate (length t.demands) 0) where
+  long : length cs ≡ length t.demands
+  long = sym (length-map cs demand_of) ∙ ap (λ (x : Terms). length x.demands) e
 
-map_replicate : {X Y : Type 0} (f : X → Y) (n : ℕ) (x : X) → map f (replicate n x) ≡ replicate n (f x)
-map_replicate f zero x = refl
-map_replicate f (suc n) x = ap (λ ys. f x ∷ ys) (map_replicate f n x)
+  pub opened_few : length cs ≤ 64
+  opened_few = let f = (open_passed t ok).few in let l = long in omega arith
 
-fresh_at : (k : ℕ) → get_or fresh k empty_account ≡ empty_account
-fresh_at k = elim (cases_lt k 64) [ inl w ↦ get_or-replicate 64 k empty_account empty_account w | inr w ↦ get_or_past fresh k empty_account w ]
+  pub opened_bounded : Bounded cs
+  opened_bounded k w =
+      let l = long in
+      let z : (get_or cs k nobody).market ≡ pos 0 = sym (markets_at cs k w) ∙ ap (λ (xs : List ℤ). get_or xs k (pos 0)) m ∙ get_or-replicate (length t.demands) k (pos 0) (pos 0) (omega arith) in
+      rw z refl
 
-markets_fresh : (n : ℕ) → n ≤ 64 → markets n fresh ≡ replicate n (pos 0)
-markets_fresh n h = ap (map market_of) (take-replicate n 64 empty_account h) ∙ map_replicate market_of n empty_account
+  pub opened_owed : total (rcs cs) ≤ 0
+  opened_owed = rw r (omega (arith, total_zeros (length t.demands)))
 
-rcs_fresh : (n : ℕ) → n ≤ 64 → rcs n fresh ≡ replicate n 0
-rcs_fresh n h = ap (map rc_of) (take-replicate n 64 empty_account h) ∙ map_replicate rc_of n empty_account
+  pub opened_light : total (demands cs) ≤ 3200000000
+  opened_light = let d = ap (λ (x : Terms). total x.demands) e in let b = (open_passed t ok).demands_bound in omega arith
 
-pub fresh_keeps : (n : ℕ) (t : List Account) → n ≤ 64 → t ≡ fresh → (length t ≡ 64) × Bounded n t × (total (rcs n t) ≤ 0)
-fresh_keeps n t h e = (ap length e, λ k w. rw (e, fresh_at k), rw (e, rcs_fresh n h) (omega (arith, total_zeros n)))
+  pub opened_is : (days : List (List Bool)) → days ≡ replicate 367 (replicate 16 false) → view cs days None ≡ opened t
+  unfolding no_market no_rc
+  opened_is days unmarked = let p = nothing_posted in cc
 
-pub opened_is : (t : Terms) → open_refusal t ≡ None → (accounts : List Account) (ds fs : List ℕ) → accounts ≡ fresh → take (length t.demands) ds ≡ t.demands → take (length t.flags) fs ≡ t.flags →
-    view (length t.demands) accounts ds fs (replicate 5872 false) None ≡ opened t
-unfolding no_market no_rc
-opened_is t ok accounts ds fs a d f =
-    let p = open_passed t ok in
-    let n = length t.demands in
-    ap₂ (λ (x : Terms) (ms : List ℤ). book_with x ms (posted_in (replicate 5872 false)) (rcs n accounts) None)
-    (ap₂ (λ (xs ys : List ℕ). record { demands = xs; flags = ys }) d (ap (λ m. take m fs) (sym p.flags_long) ∙ f))
-    (ap (markets n) a ∙ markets_fresh n p.few)
-    ∙ ap₂ (λ (posted : ℕ → ℕ → Bool) (rs : List ℕ). book_with t (replicate n (pos 0)) posted rs None) nothing_posted (ap (rcs n) a ∙ rcs_fresh n p.few)
+-- ---- the coordinators as they are taken over
+
+pub flag_low : (t : Terms) → open_refusal t ≡ None → (k : ℕ) → k < count t → flag_at t k ≤ 1
+unfolding open_refusal coordinator_refusal
+flag_low t ok k w =
+    let p = ask_passed _ _ _ _ ok in
+    let each = turn_at (coordinator_refusal t) (count t) k p.1 w in
+    leb-true _ _ (and_parts _ _ (and_parts _ _ (ask_passed _ _ _ _ each).0).0).1
+
+flag_kept : (flag : ℕ) → flag ≤ 1 → cond (eqb flag 1) 1 0 ≡ flag
+flag_kept zero h = refl
+flag_kept (suc zero) h = refl
+flag_kept (suc (suc flag)) h = absurd (omega arith)
+
+-- the first i coordinators are taken over
+pub record Taking (t : Terms) (cs : List Coordinator) (i : ℕ) : Type 0 where
+  pub demands_are : demands cs ≡ take i t.demands
+  pub flags_are : flags cs ≡ take i t.flags
+  pub markets_are : markets cs ≡ replicate i (pos 0)
+  pub rcs_are : rcs cs ≡ replicate i 0
+
+module _ (t : Terms) (ok : open_refusal t ≡ None) (cs : List Coordinator) (i : ℕ) (taking : Taking t cs i) where
+  taking_long : length cs ≡ i
+  taking_long = sym (length-map cs market_of) ∙ ap length taking.markets_are ∙ length-replicate i (pos 0)
+
+  pub taking_room : i < length t.demands → length cs < 64
+  taking_room w = let l = taking_long in let f = (open_passed t ok).few in omega arith
+
+  pub taking_more : i < length t.demands → Taking t (cs ++ record { demand = get_or t.demands i 0; flagged = eqb (get_or t.flags i 0) 1; market = pos 0; rc = 0 } ∷ []) (i + 1)
+  taking_more w =
+      let l = (open_passed t ok).flags_long in
+      let kept = flag_kept (get_or t.flags i 0) (flag_low t ok i w) in
+      record {
+        demands_are = map-append demand_of cs _ ∙ ap (λ (xs : List ℕ). xs ++ get_or t.demands i 0 ∷ []) taking.demands_are ∙ sym (take_more t.demands i 0 w);
+        flags_are = map-append flag_of cs _ ∙ ap₂ (λ (xs : List ℕ) (x : ℕ). xs ++ x ∷ []) taking.flags_are kept ∙ sym (take_more t.flags i 0 (omega arith));
+        markets_are = map-append market_of cs _ ∙ ap (λ (xs : List ℤ). xs ++ pos 0 ∷ []) taking.markets_are ∙ replicate-append-replicate i 1 (pos 0);
+        rcs_are = map-append rc_of cs _ ∙ ap (λ (xs : List ℕ). xs ++ 0 ∷ []) taking.rcs_are ∙ replicate-append-replicate i 1 0;
+      }
+
+  module _ (all : i ≡ length t.demands) where
+    pub taken_terms : terms_in cs ≡ t
+    taken_terms =
+        let l = (open_passed t ok).flags_long in
+        ap₂ terms_of (taking.demands_are ∙ take_all i t.demands (omega arith)) (taking.flags_are ∙ take_all i t.flags (omega arith))
+
+    pub taken_markets : markets cs ≡ replicate (length t.demands) (pos 0)
+    taken_markets = taking.markets_are ∙ ap (λ n. replicate n (pos 0)) all
+
+    pub taken_rcs : rcs cs ≡ replicate (length t.demands) 0
+    taken_rcs = taking.rcs_are ∙ ap (λ n. replicate n 0) all

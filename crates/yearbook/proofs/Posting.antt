@@ -1,14 +1,13 @@
 -- Posting and quoting.
-use Rattle.std.proofs.Common.{◌≡◌, ℕ, ◌+◌, ◌-◌, ◌*◌, ◌<◌, ◌≤◌, Bool, true, false, ◌&&◌, eqb, ltb, leb, List, length, get_or, take, set, ℤ, pos, ◌+ℤ◌, nat_abs, Some, None, Option, sym, refl, ap, ◌∙◌, ap₂, inl, inr, arith}
+use Rattle.std.proofs.Common.{◌≡◌, ℕ, ◌<◌, ◌≤◌, Bool, true, false, ◌&&◌, eqb, ltb, leb, List, [], length, get_or, set, ℤ, pos, ◌+ℤ◌, Some, None, Option, sym, refl, ap, ◌∙◌, ap₂, inl, inr, arith}
 use mathlib.Core.Path.{fun_ext}
-use Rattle.std.proofs.lemmas.List.{length-take-le, get_or-set_same, get_or-set_other, get_or-take}
+use Rattle.std.proofs.lemmas.List.{length-map, get_or-set_same, get_or-set_other}
 use Rattle.std.proofs.lemmas.List.FromFn.{length-map-range_with_len, get_or-map-range_with_len}
-use Rattle.std.proofs.lemmas.Bool.{and_parts, leb-true, cases_lt, cases_eq, lt-ltb, le-ltb, lt-leb, le-leb, eq-eqb, ne_eqb, eqb-true}
+use Rattle.std.proofs.lemmas.Bool.{and_parts, leb-true, cases_eq, lt-ltb, le-ltb, lt-leb, le-leb, eq-eqb, ne_eqb, eqb-true}
 use Rattle.questions.specs.Questions.{Refusal, no_at, ask, in_turn}
 use Rattle.questions.proofs.Asked.{ask_yes, ask_no, ask_passed, first_none, first_refused, turn_same}
 use Rattle.sheet.specs.Rows.{row_count, row_at, rows}
 use Rattle.sheet.specs.Questions.{sheet_refusal}
-use Rattle.charges.specs.Sums.{total}
 use Rattle.charges.specs.Rules.{Meaning, line_of, lines}
 use Rattle.year.specs.Plus.{plus_z}
 use Rattle.year.specs.Terms.{count}
@@ -16,16 +15,16 @@ use Rattle.year.specs.Market.{post, market_balance, coordinators_refusal, balanc
 use Rattle.year.specs.Rc.{charge_of}
 use Rattle.year.specs.Reading.{quote_refusal}
 use Rattle.year.specs.Book.{Book, Call, of_market, refusal, effect}
-use Rattle.year.proofs.Sums.{get_or_plus_z, total_le}
+use Rattle.year.proofs.Sums.{get_or_plus_z}
 use Rattle.year.proofs.Passed.{post_passed}
-use Rattle.yearbook.specs.declared.account.Account.{Account}
+use Rattle.yearbook.specs.declared.coordinator.Coordinator.{Coordinator}
 use Rattle.yearbook.specs.declared.book.YearBook.{YearBook}
-use Rattle.yearbook.specs.Accounts.{empty_account, markets, rcs, market_raised, each_with}
+use Rattle.yearbook.specs.Coordinators.{nobody, demand_of, flag_of, market_of, rc_of, demands, flags, markets, rcs, market_raised, each_with}
 use Rattle.yearbook.specs.Taken.{Billed}
 use Rattle.yearbook.specs.View.{posted_in, view, book_of}
-use Rattle.yearbook.proofs.Raised.{markets_raised, rcs_market_raised, length_raise}
-use Rattle.yearbook.proofs.Sides.{Bounded, within_out, markets_at, markets_long, front}
-use Rattle.yearbook.proofs.Views.{book_with, count_is, fit, in_count, past_count, market_is}
+use Rattle.yearbook.proofs.Raised.{markets_raised, map_raised, length_raise}
+use Rattle.yearbook.proofs.Columns.{Keeps, Bounded, markets_at}
+use Rattle.yearbook.proofs.Views.{view_is, count_is, in_count, past_count, market_is}
 
 -- question 9 of one row
 abbrev pub coordinator_question : ℕ → List ℕ → ℕ → Option Refusal
@@ -48,53 +47,30 @@ both_false true true h = absurd (h refl refl)
 both_false true false h = refl
 both_false false y h = refl
 
-marked_at : (table : List Bool) (code day c d : ℕ) → code < 16 → day * 16 + code < length table →
-    posted_in (set table (day * 16 + code) true) c d ≡ marked (posted_in table) code day c d
-marked_at table code day c d low inside =
-    elim (cases_lt c 16) [
-      | inr far ↦ rw (le-ltb c 16 far, ne_eqb c code (λ e. omega arith))
-      | inl near ↦
-          elim (cases_eq (d * 16 + c) (day * 16 + code)) [
-            | inl same ↦
-                let e : c ≡ code = omega arith in
-                let f : d ≡ day = omega arith in
-                rw (lt-ltb c 16 near, same, eq-eqb c code e, eq-eqb d day f, get_or-set_same)
-            | inr other ↦
-                let n : (eqb c code && eqb d day) ≡ false = both_false (eqb c code) (eqb d day) (λ e f. other (let p = eqb-true c code e in let q = eqb-true d day f in omega arith)) in
-                rw (n, get_or-set_other)
+marked_at : (days : List (List Bool)) (code day c d : ℕ) → day < length days → code < length (get_or days day []) →
+    posted_in (set days day (set (get_or days day []) code true)) c d ≡ marked (posted_in days) code day c d
+marked_at days code day c d here low =
+    elim (cases_eq d day) [
+      | inr other ↦ rw (both_false (eqb c code) (eqb d day) (λ e f. other (eqb-true d day f)), get_or-set_other days day d _ [] other) refl
+      | inl same ↦
+          elim (cases_eq c code) [
+            | inl e ↦ rw (same, get_or-set_same days day (set (get_or days day []) code true) [] here, e, eq-eqb code code refl, eq-eqb day day refl, get_or-set_same (get_or days day []) code true false low) refl
+            | inr n ↦ rw (same, get_or-set_same days day (set (get_or days day []) code true) [] here, ne_eqb c code n, get_or-set_other (get_or days day []) code c true false n) refl
           ]
     ]
 
-marked_is : (table : List Bool) (code day : ℕ) → code < 16 → day * 16 + code < length table → posted_in (set table (day * 16 + code) true) ≡ marked (posted_in table) code day
-marked_is table code day low inside = fun_ext (λ c. fun_ext (λ d. marked_at table code day c d low inside))
+pub marked_is : (days : List (List Bool)) (code day : ℕ) → day < length days → code < length (get_or days day []) → posted_in (set days day (set (get_or days day []) code true)) ≡ marked (posted_in days) code day
+marked_is days code day here low = fun_ext (λ c. fun_ext (λ d. marked_at days code day c d here low))
 
--- the front of a table of lines, beside the accounts
-module _ (s : YearBook) (table : List ℕ) (long : length table ≡ 64) (low : (k : ℕ) → k < s.count → get_or table k 0 ≤ 819200000000) where
-  front_long : length (take (s.count - 0) table) ≡ s.count
-  front_long = let f = s.few in ap length (front s.count table) ∙ length-take-le s.count table (omega arith)
-
-  front_low : (k : ℕ) → k < length (take (s.count - 0) table) → get_or (take (s.count - 0) table) k 0 ≤ 819200000000
-  front_low k w =
-      let l = front_long in
-      let w' : k < s.count = omega arith in
-      rw (front s.count table, get_or-take s.count table k 0 w') (low k w')
-
-  pub table_room : (length (take (s.count - 0) table) ≤ length s.accounts.table) × ((k : ℕ) → k < length (take (s.count - 0) table) → nat_abs (get_or s.accounts.table k empty_account).market ≤ 1000000000000000) × ((k : ℕ) → k < length (take (s.count - 0) table) → get_or (take (s.count - 0) table) k 0 ≤ 819200000000)
-  table_room =
-      let l = front_long in
-      let f = s.few in
-      let w = s.whole in
-      (omega arith, λ k v. within_out 1000000000000000 (get_or s.accounts.table k empty_account).market (s.bounded k (omega arith)), front_low)
-
-module _ (s : YearBook) (wide : length s.demands ≡ 64) (m : Meaning) (day rate : ℕ) (sheet : List ℕ) where
+module _ (s : YearBook) (m : Meaning) (day rate : ℕ) (sheet : List ℕ) where
   abbrev b : Book
   b = book_of s
 
   abbrev n : ℕ
-  n = s.count
+  n = length s.coordinators.items
 
-  abbrev t : List Account
-  t = s.accounts.table
+  abbrev t : List Coordinator
+  t = s.coordinators.items
 
   abbrev call : Call
   call = of_market (post m day rate sheet)
@@ -105,7 +81,7 @@ module _ (s : YearBook) (wide : length s.demands ≡ 64) (m : Meaning) (day rate
   -- ---- its questions
 
   counted : refusal b call ≡ post_refusal n b.market m day rate sheet
-  counted = ap (λ k. post_refusal k b.market m day rate sheet) (count_is s wide)
+  counted = ap (λ k. post_refusal k b.market m day rate sheet) (count_is s)
 
   pub post_8 : in_range ≡ false → refusal b call ≡ Some (no_at 8 0)
   unfolding post_refusal
@@ -121,30 +97,25 @@ module _ (s : YearBook) (wide : length s.demands ≡ 64) (m : Meaning) (day rate
       unfolding post_refusal
       post_9 r e = counted ∙ ask_yes 8 0 _ ok ∙ first_none _ accepted ∙ first_refused _ e
 
-      module _ (known : coordinators_refusal n sheet ≡ None) (low : m.code < 16) where
-        pub post_10 : get_or s.posted (day * 16 + m.code) false ≡ true → refusal b call ≡ Some (no_at 10 0)
+      module _ (known : coordinators_refusal n sheet ≡ None) where
+        pub post_10 : posted_in s.posted m.code day ≡ true → refusal b call ≡ Some (no_at 10 0)
         unfolding post_refusal
-        post_10 e = counted ∙ ask_yes 8 0 _ ok ∙ first_none _ accepted ∙ first_none _ known ∙ ask_no 10 0 _ (rw (lt-ltb m.code 16 low, e))
+        post_10 e = counted ∙ ask_yes 8 0 _ ok ∙ first_none _ accepted ∙ first_none _ known ∙ ask_no 10 0 _ (rw e)
 
-        module _ (unposted : get_or s.posted (day * 16 + m.code) false ≡ false) (ls : List ℕ) (ls_are : ls ≡ lines n m rate (rows sheet)) where
-          lines_long : length ls ≡ n
-          lines_long = ap length ls_are ∙ length-map-range_with_len (line_of m rate (rows sheet)) 0 n
-
+        module _ (unposted : posted_in s.posted m.code day ≡ false) (ls : List ℕ) (ls_are : ls ≡ lines n m rate (rows sheet)) where
           line_is : (k : ℕ) → k < n → get_or ls k 0 ≡ line_of m rate (rows sheet) k
           line_is k w = ap (λ xs. get_or xs k 0) ls_are ∙ get_or-map-range_with_len (line_of m rate (rows sheet)) 0 n k k 0 w (omega arith)
 
           abbrev asked : Option Refusal
-          asked = in_turn (length ls) (λ k. balance_refusal k ((get_or t k empty_account).market +ℤ pos (get_or ls k 0)))
+          asked = in_turn n (λ k. balance_refusal k ((get_or t k nobody).market +ℤ pos (get_or ls k 0)))
 
           last_question : lines_refusal n b.market (line_of m rate (rows sheet)) ≡ asked
           unfolding lines_refusal
-          last_question =
-              turn_same n _ _ (λ k w. ap₂ (λ (z : ℤ) (l : ℕ). balance_refusal k (z +ℤ pos l)) (market_is s wide k w) (sym (line_is k w)))
-              ∙ ap (λ j. in_turn j (λ k. balance_refusal k ((get_or t k empty_account).market +ℤ pos (get_or ls k 0)))) (sym lines_long)
+          last_question = turn_same n _ _ (λ k w. ap₂ (λ (z : ℤ) (l : ℕ). balance_refusal k (z +ℤ pos l)) (market_is s k w) (sym (line_is k w)))
 
           pub post_11 : refusal b call ≡ asked
           unfolding post_refusal
-          post_11 = counted ∙ ask_yes 8 0 _ ok ∙ first_none _ accepted ∙ first_none _ known ∙ ask_yes 10 0 _ (rw (lt-ltb m.code 16 low, unposted)) ∙ last_question
+          post_11 = counted ∙ ask_yes 8 0 _ ok ∙ first_none _ accepted ∙ first_none _ known ∙ ask_yes 10 0 _ (rw unposted) ∙ last_question
 
   -- ---- its effect
 
@@ -152,57 +123,45 @@ module _ (s : YearBook) (wide : length s.demands ≡ 64) (m : Meaning) (day rate
   unfolding post_refusal
   day_low e = leb-true day 366 (and_parts _ _ (ask_passed _ _ _ _ e).0).1
 
-  module _ (table : List ℕ) (billed : Billed b m day rate sheet table) where
-    low_lines : (k : ℕ) → k < n → get_or table k 0 ≤ 819200000000
-    low_lines k w = let e = count_is s wide in billed.low k (omega arith)
+  module _ (cents : List ℕ) (billed : Billed b m day rate sheet cents) where
+    pub cents_long : length cents ≡ n
+    cents_long = ap length billed.lines_are ∙ length-map-range_with_len (line_of m rate (rows sheet)) 0 (count b.terms) ∙ count_is s
 
-    pub front_room : (length (take (n - 0) table) ≤ length t) × ((k : ℕ) → k < length (take (n - 0) table) → nat_abs (get_or t k empty_account).market ≤ 1000000000000000) × ((k : ℕ) → k < length (take (n - 0) table) → get_or (take (n - 0) table) k 0 ≤ 819200000000)
-    front_room = table_room s table billed.long low_lines
+    module _ (t' : List Coordinator) (raised : t' ≡ each_with market_raised t cents) where
+      markets_are : markets t' ≡ plus_z (markets t) (lines (count b.terms) m rate (rows sheet))
+      markets_are = ap markets raised ∙ markets_raised t cents ∙ ap (plus_z (markets t)) billed.lines_are
 
-    pub front_total : total (take (n - 0) table) ≤ 52428800000000
-    front_total =
-        let f = s.few in
-        let l = billed.long in
-        omega (arith, total_le 819200000000 (take (n - 0) table) front_room.2, ap length (front n table) ∙ length-take-le n table (omega arith))
+      rcs_are : rcs t' ≡ rcs t
+      rcs_are = ap rcs raised ∙ map_raised rc_of market_raised (λ a y. refl) t cents
 
-    lines_are : take (n - 0) table ≡ lines (count b.terms) m rate (rows sheet)
-    lines_are = front n table ∙ ap (λ k. take k table) (sym (count_is s wide)) ∙ billed.lines_are
+      demands_are : demands t' ≡ demands t
+      demands_are = ap demands raised ∙ map_raised demand_of market_raised (λ a y. refl) t cents
 
-    pub sum_is : total (take (n - 0) table) ≡ total (lines (count b.terms) m rate (rows sheet))
-    sum_is = ap total lines_are
+      flags_are : flags t' ≡ flags t
+      flags_are = ap flags raised ∙ map_raised flag_of market_raised (λ a y. refl) t cents
 
-    module _ (t' : List Account) (raised : t' ≡ each_with market_raised t (take (n - 0) table)) where
-      markets_are : markets n t' ≡ plus_z (markets n t) (lines (count b.terms) m rate (rows sheet))
-      markets_are = ap (markets n) raised ∙ markets_raised n t _ ∙ ap (plus_z (markets n t)) lines_are
-
-      rcs_are : rcs n t' ≡ rcs n t
-      rcs_are = ap (rcs n) raised ∙ rcs_market_raised n t _
-
-      pub post_left : (posted : List Bool) → m.code < 16 → day * 16 + m.code < length s.posted → posted ≡ set s.posted (day * 16 + m.code) true →
-          view n t' s.demands s.flags posted s.charge ≡ effect b call
+      pub post_left : (days : List (List Bool)) → day < length s.posted → m.code < length (get_or s.posted day []) → days ≡ set s.posted day (set (get_or s.posted day []) m.code true) →
+          view t' days s.charge ≡ effect b call
       unfolding market_effect
-      post_left posted low w e =
-          ap₂ (λ (ms : List ℤ) (ps : ℕ → ℕ → Bool). book_with b.terms ms ps (rcs n t') s.charge) markets_are (ap posted_in e ∙ marked_is s.posted m.code day low w)
-          ∙ ap (λ rs. book_with b.terms (plus_z (markets n t) (lines (count b.terms) m rate (rows sheet))) (marked (posted_in s.posted) m.code day) rs s.charge) rcs_are
+      post_left days here low e = view_is t t' demands_are flags_are _ markets_are _ rcs_are days _ (ap posted_in e ∙ marked_is s.posted m.code day here low) s.charge
 
-      long' : length t' ≡ 64
-      long' = ap length raised ∙ length_raise market_raised t _ ∙ s.whole
+      long' : length t' ≡ length t
+      long' = ap length raised ∙ length_raise market_raised t cents
 
-      bounded' : Bounded n t'
+      bounded' : Bounded t'
       bounded' k w =
-          let f = s.few in
           let l = long' in
-          let c = count_is s wide in
-          let e : (get_or t' k empty_account).market ≡ market_balance b.market k +ℤ pos (line_of m rate (rows sheet) k) =
-          sym (markets_at n t' (omega arith) k w) ∙ ap (λ xs. get_or xs k (pos 0)) markets_are
-          ∙ get_or_plus_z (markets n t) (lines (count b.terms) m rate (rows sheet)) k (markets_long n t (fit s wide) ∙ sym c ∙ sym (length-map-range_with_len (line_of m rate (rows sheet)) 0 (count b.terms)))
+          let c = count_is s in
+          let e : (get_or t' k nobody).market ≡ market_balance b.market k +ℤ pos (line_of m rate (rows sheet) k) =
+          sym (markets_at t' k w) ∙ ap (λ xs. get_or xs k (pos 0)) markets_are
+          ∙ get_or_plus_z (markets t) (lines (count b.terms) m rate (rows sheet)) k (length-map t market_of ∙ sym c ∙ sym (length-map-range_with_len (line_of m rate (rows sheet)) 0 (count b.terms)))
           ∙ ap (λ l. market_balance b.market k +ℤ pos l) (get_or-map-range_with_len (line_of m rate (rows sheet)) 0 (count b.terms) k k 0 (omega arith) (omega arith)) in
           rw e (post_passed (count b.terms) b.market m day rate sheet billed.accepted k (omega arith))
 
-      pub post_keeps : (length t' ≡ 64) × Bounded n t' × (total (rcs n t') ≤ charge_of s.charge)
-      post_keeps = (long', bounded', rw rcs_are s.owed)
+      pub post_keeps : Keeps t' (charge_of s.charge)
+      post_keeps = record { few = let l = long' in let f = s.few in omega arith; bounded = bounded'; owed = rw rcs_are s.owed; light = rw demands_are s.light }
 
-module _ (s : YearBook) (wide : length s.demands ≡ 64) (rate : ℕ) (sheet : List ℕ) (k : ℕ) where
+module _ (s : YearBook) (rate : ℕ) (sheet : List ℕ) (k : ℕ) where
   abbrev quoted : Option Refusal
   quoted = quote_refusal (book_of s) rate sheet k
 
@@ -216,18 +175,18 @@ module _ (s : YearBook) (wide : length s.demands ≡ 64) (rate : ℕ) (sheet : L
     quote_sheet r e = ask_yes 8 0 _ (le-leb rate 10000000 ok) ∙ first_refused _ e
 
     module _ (accepted : sheet_refusal sheet ≡ None) where
-      asked_of : coordinators_refusal (count (book_of s).terms) sheet ≡ coordinators_refusal s.count sheet
-      asked_of = ap (λ n. coordinators_refusal n sheet) (count_is s wide)
+      asked_of : coordinators_refusal (count (book_of s).terms) sheet ≡ coordinators_refusal (length s.coordinators.items) sheet
+      asked_of = ap (λ n. coordinators_refusal n sheet) (count_is s)
 
-      pub quote_9 : (r : Refusal) → coordinators_refusal s.count sheet ≡ Some r → quoted ≡ Some r
+      pub quote_9 : (r : Refusal) → coordinators_refusal (length s.coordinators.items) sheet ≡ Some r → quoted ≡ Some r
       unfolding quote_refusal
       quote_9 r e = ask_yes 8 0 _ (le-leb rate 10000000 ok) ∙ first_none _ accepted ∙ first_refused _ (asked_of ∙ e)
 
-      module _ (known : coordinators_refusal s.count sheet ≡ None) where
-        pub quote_12 : s.count ≤ k → quoted ≡ Some (no_at 12 0)
+      module _ (known : coordinators_refusal (length s.coordinators.items) sheet ≡ None) where
+        pub quote_12 : length s.coordinators.items ≤ k → quoted ≡ Some (no_at 12 0)
         unfolding quote_refusal
-        quote_12 h = ask_yes 8 0 _ (le-leb rate 10000000 ok) ∙ first_none _ accepted ∙ first_none _ (asked_of ∙ known) ∙ ask_no 12 0 _ (past_count s wide k h)
+        quote_12 h = ask_yes 8 0 _ (le-leb rate 10000000 ok) ∙ first_none _ accepted ∙ first_none _ (asked_of ∙ known) ∙ ask_no 12 0 _ (past_count s k h)
 
-        pub quote_none : k < s.count → quoted ≡ None
+        pub quote_none : k < length s.coordinators.items → quoted ≡ None
         unfolding quote_refusal
-        quote_none h = ask_yes 8 0 _ (le-leb rate 10000000 ok) ∙ first_none _ accepted ∙ first_none _ (asked_of ∙ known) ∙ ask_yes 12 0 _ (in_count s wide k h)
+        quote_none h = ask_yes 8 0 _ (le-leb rate 10000000 ok) ∙ first_none _ accepted ∙ first_none _ (asked_of ∙ known) ∙ ask_yes 12 0 _ (in_count s k h)

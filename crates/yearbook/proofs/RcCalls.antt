@@ -1,77 +1,95 @@
 -- RC payments and defaults.
-use Rattle.std.proofs.Common.{◌≡◌, ℕ, ◌-◌, ◌<◌, ◌≤◌, true, false, ◌&&◌, leb, List, length, get_or, take, set, ℤ, Ok, Err, sym, refl, ap, ◌∙◌, ap₂, inl, inr, arith}
-use Rattle.std.proofs.lemmas.Bool.{lt-leb, le-leb, and_parts, leb-true, cases_lt}
-use Rattle.std.proofs.lemmas.List.{length-set, set_past, get_or-set_same, get_or_past}
-use Rattle.questions.specs.Questions.{no_at}
+use Rattle.std.proofs.Common.{◌≡◌, ℕ, ◌+◌, ◌-◌, ◌<◌, ◌≤◌, Bool, true, false, ◌&&◌, ◌||◌, eqb, leb, ltb, List, length, get_or, set, Some, None, Ok, Err, Option, sym, refl, ap, ◌∙◌, ap₂, inl, inr, arith}
+use Rattle.std.proofs.lemmas.Bool.{lt-leb, le-leb, lt-ltb, le-ltb, ne_eqb, cases_lt}
+use Rattle.std.proofs.lemmas.List.{length-map, length-set, map-set, set_past, get_or-map, get_or-set_same, get_or_past}
+use Rattle.std.proofs.Math.Seq.{map-set_same}
+use Rattle.questions.specs.Questions.{Refusal, no_at, ask}
 use Rattle.questions.proofs.Asked.{ask_yes, ask_no}
 use Rattle.charges.specs.Sums.{total}
 use Rattle.year.specs.Plus.{plus}
 use Rattle.year.specs.Spread.{spread}
+use Rattle.year.specs.Terms.{count, terms_of}
 use Rattle.year.specs.Rc.{rc_balance, charge_of, pay_rc, default, carrier_weights, spreadable, pay_rc_refusal, default_refusal, passed_on, rc_effect}
 use Rattle.year.specs.Book.{Book, of_rc}
 use Rattle.year.proofs.Sums.{total_set}
-use Rattle.year.proofs.Spread.{spread_law, length_spread}
-use Rattle.year.proofs.Passed.{spreadable_cases}
 use Rattle.year.proofs.Rc.{total_passed}
-use Rattle.yearbook.specs.declared.account.Account.{Account}
+use Rattle.yearbook.specs.declared.coordinator.Coordinator.{Coordinator}
 use Rattle.yearbook.specs.declared.book.YearBook.{YearBook}
-use Rattle.yearbook.specs.Accounts.{empty_account, markets, rcs, rc_paid, rc_raised, each_with}
+use Rattle.yearbook.specs.Coordinators.{nobody, demand_of, flag_of, market_of, rc_of, demands, flags, markets, rcs, terms_in, rc_at, rc_raised, each_with}
 use Rattle.yearbook.specs.Taken.{Done}
 use Rattle.yearbook.specs.View.{view, book_of}
-use Rattle.yearbook.proofs.Raised.{rcs_raised, markets_rc_raised, length_raise}
-use Rattle.yearbook.proofs.Sides.{Bounded, set_take, markets_kept, rcs_set, rcs_long, rcs_paid, bounded_same, rc_low, front}
+use Rattle.yearbook.proofs.Raised.{rcs_raised, map_raised, length_raise}
+use Rattle.yearbook.proofs.Columns.{Keeps, rcs_at, bounded_set, bounded_same}
 use Rattle.yearbook.proofs.Taken.{taken_refused, taken_accepted}
-use Rattle.yearbook.proofs.Views.{book_with, count_is, fit, in_count, past_count, rc_is}
+use Rattle.yearbook.proofs.Views.{view_is, count_is, in_count, past_count, rc_is}
 
-module _ (s : YearBook) (wide : length s.demands ≡ 64) (k a : ℕ) where
+or_right : (x : Bool) {y : Bool} → y ≡ true → (x || y) ≡ true
+or_right true h = refl
+or_right false h = h
+
+-- a question that refused is asked before those behind it
+refused_before : (p q u : Bool) (behind : Option Refusal) (r : Refusal) → ask p 12 0 (ask q 13 0 (ask u 14 0 None)) ≡ Some r → ask p 12 0 (ask q 13 0 (ask u 14 0 behind)) ≡ Some r
+unfolding ask
+refused_before true true true behind r e = cc
+refused_before true true false behind r e = e
+refused_before true false u behind r e = e
+refused_before false q u behind r e = e
+
+module _ (s : YearBook) (k a : ℕ) where
   abbrev b : Book
   b = book_of s
 
   abbrev n : ℕ
-  n = s.count
+  n = length s.coordinators.items
 
-  abbrev t : List Account
-  t = s.accounts.table
+  abbrev t : List Coordinator
+  t = s.coordinators.items
 
   -- the balance in the account and in the model
-  covered : k < n → a ≤ (get_or t k empty_account).rc → leb a (rc_balance b.rc k) ≡ true
-  covered h l = let r = rc_is s wide k h in le-leb a (rc_balance b.rc k) (omega arith)
+  covered : k < n → a ≤ (get_or t k nobody).rc → leb a (rc_balance b.rc k) ≡ true
+  covered h l = let r = rc_is s k h in le-leb a (rc_balance b.rc k) (omega arith)
 
-  uncovered : k < n → (get_or t k empty_account).rc < a → leb a (rc_balance b.rc k) ≡ false
-  uncovered h l = let r = rc_is s wide k h in lt-leb a (rc_balance b.rc k) (omega arith)
+  uncovered : k < n → (get_or t k nobody).rc < a → leb a (rc_balance b.rc k) ≡ false
+  uncovered h l = let r = rc_is s k h in lt-leb a (rc_balance b.rc k) (omega arith)
+
+  -- ---- questions 12 to 14, and those behind them
+
+  abbrev asks : ℕ → Option Refusal → Option Refusal
+  asks most behind = ask (ltb k (count b.terms)) 12 0 (ask (leb 1 a && leb a most) 13 0 (ask (leb a (rc_balance b.rc k)) 14 0 behind))
+
+  pub owing_12 : (most : ℕ) → n ≤ k → asks most None ≡ Some (no_at 12 0)
+  owing_12 most h = ask_no 12 0 _ (past_count s k h)
+
+  pub owing_13 : (most : ℕ) → k < n → (leb 1 a && leb a most) ≡ false → asks most None ≡ Some (no_at 13 0)
+  owing_13 most h out = ask_yes 12 0 _ (in_count s k h) ∙ ask_no 13 0 _ out
+
+  pub owing_14 : (most : ℕ) → k < n → (leb 1 a && leb a most) ≡ true → (get_or t k nobody).rc < a → asks most None ≡ Some (no_at 14 0)
+  owing_14 most h fits l = ask_yes 12 0 _ (in_count s k h) ∙ ask_yes 13 0 _ fits ∙ ask_no 14 0 _ (uncovered h l)
+
+  -- all three passed
+  owed : (most : ℕ) (behind : Option Refusal) → k < n → 1 ≤ a → a ≤ most → a ≤ (get_or t k nobody).rc → asks most behind ≡ behind
+  owed most behind h low high l =
+      ask_yes 12 0 _ (in_count s k h) ∙ ask_yes 13 0 _ (rw (le-leb 1 a low, le-leb a most high) refl) ∙ ask_yes 14 0 _ (covered h l)
 
   -- ---- a payment
 
-  pub pay_rc_12 : n ≤ k → Done b (of_rc (pay_rc k a)) b (Err (no_at 12 0))
+  pub pay_rc_refused : (r : Refusal) → asks 1000000000000 None ≡ Some r → Done b (of_rc (pay_rc k a)) b (Err r)
   unfolding pay_rc_refusal
-  pay_rc_12 h = taken_refused b (of_rc (pay_rc k a)) tt _ (ask_no 12 0 _ (past_count s wide k h))
+  pay_rc_refused r e = taken_refused b (of_rc (pay_rc k a)) tt r e
 
-  module _ (h : k < n) where
-    pub pay_rc_13 : (leb 1 a && leb a 1000000000000) ≡ false → Done b (of_rc (pay_rc k a)) b (Err (no_at 13 0))
-    unfolding pay_rc_refusal
-    pay_rc_13 out = taken_refused b (of_rc (pay_rc k a)) tt _ (ask_yes 12 0 _ (in_count s wide k h) ∙ ask_no 13 0 _ out)
-
-    module _ (fits : (leb 1 a && leb a 1000000000000) ≡ true) where
-      pub pay_rc_14 : (get_or t k empty_account).rc < a → Done b (of_rc (pay_rc k a)) b (Err (no_at 14 0))
-      unfolding pay_rc_refusal
-      pay_rc_14 l = taken_refused b (of_rc (pay_rc k a)) tt _ (ask_yes 12 0 _ (in_count s wide k h) ∙ ask_yes 13 0 _ fits ∙ ask_no 14 0 _ (uncovered h l))
-
-      pub pay_rc_done : a ≤ (get_or t k empty_account).rc → (t' : List Account) → t' ≡ set t k (rc_paid (get_or t k empty_account) a) →
-          Done b (of_rc (pay_rc k a)) (view n t' s.demands s.flags s.posted s.charge) (Ok tt)
-      unfolding pay_rc_refusal rc_effect
-      pay_rc_done l t' e = taken_accepted b (of_rc (pay_rc k a)) tt _
-          (ask_yes 12 0 _ (in_count s wide k h) ∙ ask_yes 13 0 _ fits ∙ ask_yes 14 0 _ (covered h l))
-          (ap₂ (λ (ms : List ℤ) (rs : List ℕ). book_with b.terms ms b.market.posted rs s.charge)
-          (ap (markets n) e ∙ markets_kept n t (fit s wide) k _ h refl) (ap (rcs n) e ∙ rcs_set n t k _ ∙ ap (λ r. set (rcs n t) k (r - a)) (sym (rc_is s wide k h))))
+  pub pay_rc_done : k < n → 1 ≤ a → a ≤ 1000000000000 → a ≤ (get_or t k nobody).rc → (t' : List Coordinator) → t' ≡ set t k (rc_at (get_or t k nobody) ((get_or t k nobody).rc - a)) →
+      Done b (of_rc (pay_rc k a)) (view t' s.posted s.charge) (Ok tt)
+  unfolding pay_rc_refusal rc_effect
+  pay_rc_done h low high l t' e = taken_accepted b (of_rc (pay_rc k a)) tt _ (owed 1000000000000 None h low high l)
+      (let c : Coordinator = rc_at (get_or t k nobody) ((get_or t k nobody).rc - a) in
+      view_is t t' (ap demands e ∙ map-set_same demand_of t k c nobody refl) (ap flags e ∙ map-set_same flag_of t k c nobody refl)
+      _ (ap markets e ∙ map-set_same market_of t k c nobody refl)
+      _ (ap rcs e ∙ map-set rc_of t k c ∙ ap (λ r. set (rcs t) k (r - a)) (sym (rc_is s k h))) s.posted _ refl s.charge)
 
   -- ---- a default: k is the debtor, a the unpaid amount
 
   abbrev weights : List ℕ
   weights = carrier_weights b.terms k
-
-  -- the weights as the code makes them
-  pub weights_are : take (n - 0) (set s.demands k 0) ≡ weights
-  weights_are = front n (set s.demands k 0) ∙ set_take n s.demands k 0
 
   out_weighs : (xs : List ℕ) → total (set xs k 0) ≤ total xs
   out_weighs xs = elim (cases_lt k (length xs)) [
@@ -79,11 +97,19 @@ module _ (s : YearBook) (wide : length s.demands ≡ 64) (k a : ℕ) where
     | inr w ↦ rw (set_past xs k 0 w) (omega arith)
   ]
 
+  -- the others' demand
+  pub others_demand : k < n → total weights + (get_or t k nobody).demand ≡ total (demands t)
+  others_demand h =
+      let l = length-map t demand_of in
+      let e = total_set (demands t) k 0 (omega arith) in
+      let d = get_or-map demand_of t k nobody 0 h in
+      omega arith
+
   pub weights_light : total weights ≤ 3200000000
   weights_light = omega (arith, out_weighs b.terms.demands, s.light)
 
   pub weights_long : length weights ≡ n
-  weights_long = length-set b.terms.demands k 0 ∙ count_is s wide
+  weights_long = length-set b.terms.demands k 0 ∙ count_is s
 
   debtor_out : get_or weights k 0 ≡ 0
   debtor_out = elim (cases_lt k (length b.terms.demands)) [
@@ -91,73 +117,74 @@ module _ (s : YearBook) (wide : length s.demands ≡ 64) (k a : ℕ) where
     | inr w ↦ get_or_past weights k 0 (let l = length-set b.terms.demands k 0 in omega arith)
   ]
 
-  pub default_12 : n ≤ k → Done b (of_rc (default k a)) b (Err (no_at 12 0))
+  pub default_refused : (r : Refusal) → asks 2000000000 None ≡ Some r → Done b (of_rc (default k a)) b (Err r)
   unfolding default_refusal
-  default_12 h = taken_refused b (of_rc (default k a)) tt _ (ask_no 12 0 _ (past_count s wide k h))
+  default_refused r e = taken_refused b (of_rc (default k a)) tt r (refused_before _ _ _ _ r e)
 
-  module _ (h : k < n) where
-    pub default_13 : (leb 1 a && leb a 2000000000) ≡ false → Done b (of_rc (default k a)) b (Err (no_at 13 0))
-    unfolding default_refusal
-    default_13 out = taken_refused b (of_rc (default k a)) tt _ (ask_yes 12 0 _ (in_count s wide k h) ∙ ask_no 13 0 _ out)
+  module _ (h : k < n) (low : 1 ≤ a) (high : a ≤ 2000000000) (l : a ≤ (get_or t k nobody).rc) where
+    pub default_17 : total weights ≡ 0 → Done b (of_rc (default k a)) b (Err (no_at 17 0))
+    unfolding default_refusal spreadable
+    default_17 z = taken_refused b (of_rc (default k a)) tt _
+        (owed 2000000000 _ h low high l ∙ ask_no 17 0 _ (rw (ne_eqb a 0 (λ e. omega arith), le-ltb 0 (total weights) (omega arith))))
 
-    module _ (fits : (leb 1 a && leb a 2000000000) ≡ true) where
-      some : 1 ≤ a
-      some = leb-true 1 a (and_parts _ _ fits).0
+    module _ (p : 0 < total weights) (t₁ t₂ : List Coordinator) (paid : t₁ ≡ set t k (rc_at (get_or t k nobody) ((get_or t k nobody).rc - a))) (raised : t₂ ≡ each_with rc_raised t₁ (spread a weights)) where
+      abbrev c : Coordinator
+      c = rc_at (get_or t k nobody) ((get_or t k nobody).rc - a)
 
-      pub default_14 : (get_or t k empty_account).rc < a → Done b (of_rc (default k a)) b (Err (no_at 14 0))
-      unfolding default_refusal
-      default_14 l = taken_refused b (of_rc (default k a)) tt _ (ask_yes 12 0 _ (in_count s wide k h) ∙ ask_yes 13 0 _ fits ∙ ask_no 14 0 _ (uncovered h l))
+      markets_are : markets t₂ ≡ markets t
+      markets_are = ap markets raised ∙ map_raised market_of rc_raised (λ x y. refl) t₁ (spread a weights) ∙ ap markets paid ∙ map-set_same market_of t k c nobody refl
 
-      module _ (l : a ≤ (get_or t k empty_account).rc) where
-        pub default_17 : spreadable a weights ≡ false → Done b (of_rc (default k a)) b (Err (no_at 17 0))
-        unfolding default_refusal
-        default_17 z = taken_refused b (of_rc (default k a)) tt _ (ask_yes 12 0 _ (in_count s wide k h) ∙ ask_yes 13 0 _ fits ∙ ask_yes 14 0 _ (covered h l)
-            ∙ ask_no 17 0 _ z)
+      demands_are : demands t₂ ≡ demands t
+      demands_are = ap demands raised ∙ map_raised demand_of rc_raised (λ x y. refl) t₁ (spread a weights) ∙ ap demands paid ∙ map-set_same demand_of t k c nobody refl
 
-        module _ (carries : spreadable a weights ≡ true) (t₁ t₂ : List Account) (shares : List ℕ) (paid : t₁ ≡ set t k (rc_paid (get_or t k empty_account) a))
-            (given : shares ≡ spread a weights) (raised : t₂ ≡ each_with rc_raised t₁ shares) where
-          p : 0 < total weights
-          p = let m = some in elim (spreadable_cases a weights carries) [ inl z ↦ absurd (omega arith) | inr w ↦ w ]
+      flags_are : flags t₂ ≡ flags t
+      flags_are = ap flags raised ∙ map_raised flag_of rc_raised (λ x y. refl) t₁ (spread a weights) ∙ ap flags paid ∙ map-set_same flag_of t k c nobody refl
 
-          markets_are : markets n t₂ ≡ markets n t
-          markets_are = ap (markets n) raised ∙ markets_rc_raised n t₁ shares ∙ ap (markets n) paid ∙ markets_kept n t (fit s wide) k (rc_paid (get_or t k empty_account) a) h refl
+      rcs_are : rcs t₂ ≡ passed_on weights (rcs t) k a
+      unfolding passed_on
+      rcs_are = ap rcs raised ∙ rcs_raised t₁ (spread a weights)
+          ∙ ap (λ xs. plus xs (spread a weights)) (ap rcs paid ∙ map-set rc_of t k c ∙ ap (λ x. set (rcs t) k (x - a)) (sym (rc_is s k h)))
 
-          rcs_are : rcs n t₂ ≡ passed_on weights (rcs n t) k a
-          unfolding passed_on
-          rcs_are = ap (rcs n) raised ∙ rcs_raised n t₁ shares
-              ∙ ap₂ plus (ap (rcs n) paid ∙ rcs_set n t k (rc_paid (get_or t k empty_account) a) ∙ ap (λ x. set (rcs n t) k (x - a)) (sym (rc_is s wide k h))) given
+      pub default_done : Done b (of_rc (default k a)) (view t₂ s.posted s.charge) (Ok tt)
+      unfolding default_refusal rc_effect spreadable
+      default_done = taken_accepted b (of_rc (default k a)) tt _
+          (owed 2000000000 _ h low high l ∙ ask_yes 17 0 _ (or_right (eqb a 0) (lt-ltb 0 (total weights) p)))
+          (view_is t t₂ demands_are flags_are _ markets_are _ rcs_are s.posted _ refl s.charge)
 
-          pub default_done : Done b (of_rc (default k a)) (view n t₂ s.demands s.flags s.posted s.charge) (Ok tt)
-          unfolding default_refusal rc_effect
-          default_done = taken_accepted b (of_rc (default k a)) tt _
-              (ask_yes 12 0 _ (in_count s wide k h) ∙ ask_yes 13 0 _ fits ∙ ask_yes 14 0 _ (covered h l) ∙ ask_yes 17 0 _ carries)
-              (ap₂ (λ (ms : List ℤ) (rs : List ℕ). book_with b.terms ms b.market.posted rs s.charge) markets_are rcs_are)
+      long : length t₂ ≡ length t
+      long = ap length raised ∙ length_raise rc_raised t₁ (spread a weights) ∙ ap length paid ∙ length-set t k c
 
-          long₁ : length t₁ ≡ 64
-          long₁ = ap length paid ∙ length-set t k _ ∙ s.whole
+      default_owed : total (rcs t₂) ≤ charge_of s.charge
+      default_owed =
+          let lr = length-map t rc_of in
+          let lw = weights_long in
+          let o = rc_is s k h in
+          let q = total_passed weights (rcs t) k a (omega arith) debtor_out (omega arith) (omega arith) p in
+          rw (rcs_are, q) s.owed
 
-          long₂ : length t₂ ≡ 64
-          long₂ = ap length raised ∙ length_raise rc_raised t₁ shares ∙ long₁
+      pub default_keeps : Keeps t₂ (charge_of s.charge)
+      default_keeps = record { few = let e = long in let f = s.few in omega arith; bounded = bounded_same t t₂ long markets_are s.bounded; owed = default_owed; light = rw demands_are s.light }
 
-          owed : total (rcs n t₂) ≤ charge_of s.charge
-          owed =
-              let lr = rcs_long n t (fit s wide) in
-              let lw = weights_long in
-              let o = rc_is s wide k h in
-              let q = total_passed weights (rcs n t) k a (omega arith) debtor_out (omega arith) (omega arith) p in
-              rw (rcs_are, q) s.owed
+  -- what is left to owe once the debtor's part is taken
+  pub paid_owed : k < n → (t₁ : List Coordinator) → t₁ ≡ set t k (rc_at (get_or t k nobody) ((get_or t k nobody).rc - a)) → (m : ℕ) → total (rcs t) ≤ m → total (rcs t₁) ≤ m
+  paid_owed h t₁ e m o =
+      let l = length-map t rc_of in
+      let r = rcs_at t k h in
+      let z = total_set (rcs t) k ((get_or t k nobody).rc - a) (omega arith) in
+      rw (e, map-set rc_of t k (rc_at (get_or t k nobody) ((get_or t k nobody).rc - a))) (omega arith)
 
-          pub default_keeps : (length t₂ ≡ 64) × Bounded n t₂ × (total (rcs n t₂) ≤ charge_of s.charge)
-          default_keeps = (long₂, bounded_same n t t₂ s.few s.whole long₂ markets_are s.bounded, owed)
+  pub paid_keeps : k < n → (t₁ : List Coordinator) → t₁ ≡ set t k (rc_at (get_or t k nobody) ((get_or t k nobody).rc - a)) → Keeps t₁ (charge_of s.charge)
+  paid_keeps h t₁ e =
+      let c : Coordinator = rc_at (get_or t k nobody) ((get_or t k nobody).rc - a) in
+      let f = s.few in
+      record {
+        few = let l = ap length e ∙ length-set t k c in omega arith;
+        bounded = rw e (bounded_set t k c (s.bounded k h) s.bounded);
+        owed = paid_owed h t₁ e (charge_of s.charge) s.owed;
+        light = let d = ap (λ x. total x) (ap demands e ∙ map-set_same demand_of t k c nobody refl) in let l = s.light in omega arith;
+      }
 
-          pub default_room : (length shares ≤ 64) × ((j : ℕ) → j < length shares → (get_or t₁ j empty_account).rc ≤ 4000000000) × (total shares ≤ 4000000000)
-          default_room =
-              let lw = weights_long in
-              let f = s.few in
-              let l1 = long₁ in
-              let ls : length shares ≡ n = ap length given ∙ length_spread a weights ∙ weights_long in
-              let o = rcs_paid n t t₁ k a _ s.few s.whole h paid s.owed in
-              let li = s.limited in
-              let sp = ap total given ∙ (spread_law a weights).whole (inr p) in
-              let q : a ≤ 2000000000 = leb-true a 2000000000 (and_parts (leb 1 a) (leb a 2000000000) fits).1 in
-              (omega arith, λ j w. omega (arith, rc_low n t₁ (charge_of s.charge) (omega arith) o j (omega arith)), omega arith)
+  pub paid_terms : k < n → (t₁ : List Coordinator) → t₁ ≡ set t k (rc_at (get_or t k nobody) ((get_or t k nobody).rc - a)) → terms_in t₁ ≡ terms_in t
+  paid_terms h t₁ e =
+      let c : Coordinator = rc_at (get_or t k nobody) ((get_or t k nobody).rc - a) in
+      ap₂ terms_of (ap demands e ∙ map-set_same demand_of t k c nobody refl) (ap flags e ∙ map-set_same flag_of t k c nobody refl)

@@ -1,4 +1,4 @@
-pub mod Accounts
+pub mod Coordinators
 pub mod Faults
 pub mod Payments
 pub mod Taken

@@ -1,5 +1,5 @@
 -- What a call does to a book, and what it answers.
-use Rattle.std.specs.Prelude.{◌≡◌, ℕ, ◌<◌, ◌≤◌, List, length, take, None, Ok, Err, Result, slice_index}
+use Rattle.std.specs.Prelude.{◌≡◌, ℕ, List, None, Ok, Err, Result}
 use Rattle.questions.specs.Questions.{Refusal, answer}
 use Rattle.sheet.specs.Rows.{rows}
 use Rattle.charges.specs.Rules.{Meaning, lines}
@@ -21,9 +21,7 @@ abbrev pub Unaltered : {T E X : Type 0} → Result T E → X → X → Type 0
 Unaltered (Ok value) before after = Unit {0}
 Unaltered (Err fault) before after = after ≡ before
 
--- the lines of an accepted post, as a table with a place for each of 64 coordinators
-pub record Billed (b : Book) (m : Meaning) (day rate : ℕ) (sheet : List ℕ) (table : List ℕ) : Type 0 where
+-- the lines of an accepted post
+pub record Billed (b : Book) (m : Meaning) (day rate : ℕ) (sheet cents : List ℕ) : Type 0 where
   pub accepted : refusal b (of_market (post m day rate sheet)) ≡ None
-  pub long : length table ≡ 64
-  pub low : (k : ℕ) → k < count b.terms → slice_index table k ≤ 819200000000
-  pub lines_are : take (count b.terms) table ≡ lines (count b.terms) m rate (rows sheet)
+  pub lines_are : cents ≡ lines (count b.terms) m rate (rows sheet)

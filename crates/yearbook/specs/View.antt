@@ -1,28 +1,24 @@
 -- The book of the model that the code's book holds.
-use Rattle.std.specs.Prelude.{ℕ, ◌+◌, ◌*◌, Bool, false, ◌&&◌, List, [], take, ℤ, ◌+ℤ◌, Option, nat_lt, slice_index_or, slice_set}
-use Rattle.yearbook.specs.declared.account.Account.{Account}
+use Rattle.std.specs.Prelude.{ℕ, Bool, false, List, [], ℤ, ◌+ℤ◌, Option, slice_index_or, slice_set}
 use Rattle.yearbook.specs.declared.book.YearBook.{YearBook}
-use Rattle.yearbook.specs.Accounts.{markets, rcs}
-use Rattle.year.specs.Terms.{Terms}
+use Rattle.yearbook.specs.declared.coordinator.Coordinator.{Coordinator}
+use Rattle.yearbook.specs.Coordinators.{terms_in, markets, rcs}
 use Rattle.year.specs.Market.{market_balance}
 use Rattle.year.specs.Book.{Book, opened}
 
--- sixteen codes for each day
-abbrev pub posted_in : List Bool → ℕ → ℕ → Bool
-posted_in table code day = nat_lt code 16 && slice_index_or table (day * 16 + code) false
+-- the marks of each day, by code
+abbrev pub posted_in : List (List Bool) → ℕ → ℕ → Bool
+posted_in days code day = slice_index_or (slice_index_or days day []) code false
 
-abbrev pub terms_in : ℕ → List ℕ → List ℕ → Terms
-terms_in n demands flags = record { demands = take n demands; flags = take n flags }
-
-abbrev pub view : ℕ → List Account → List ℕ → List ℕ → List Bool → Option ℕ → Book
-view n accounts demands flags posted charge = record {
-  terms = terms_in n demands flags;
-  market = record { balances = markets n accounts; posted = posted_in posted };
-  rc = record { balances = rcs n accounts; charge = charge };
+abbrev pub view : List Coordinator → List (List Bool) → Option ℕ → Book
+view coordinators posted charge = record {
+  terms = terms_in coordinators;
+  market = record { balances = markets coordinators; posted = posted_in posted };
+  rc = record { balances = rcs coordinators; charge = charge };
 }
 
 abbrev pub book_of : YearBook → Book
-book_of book = view book.count book.accounts.table book.demands book.flags book.posted book.charge
+book_of book = view book.coordinators.items book.posted book.charge
 
 -- a book not yet opened has no coordinators
 abbrev pub unopened : Book

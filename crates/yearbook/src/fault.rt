@@ -4,6 +4,7 @@ ghost use Rattle.yearbook.specs.Faults.{book_fault};
 ghost use Rattle.yearbook.specs.declared.fault.BookFault.TheVariants.{Sheet};
 
 use questions::Layer;
+use questions::fault::{Fault, write_fault};
 use sheet::fault::SheetFault;
 use std::fmt;
 
@@ -33,10 +34,10 @@ impl From<SheetFault> for BookFault {
     }
 }
 
-impl BookFault {
-    pub fn question(&self) -> u8
-        ensures { result ≡ (book_fault self.now).question }
-    {
+impl Fault for BookFault {
+    ghost refusal = { book_fault };
+
+    fn question(&self) -> u8 {
         match self {
             BookFault::Sheet(fault) => fault.question(),
             BookFault::Lists => 6,
@@ -54,9 +55,7 @@ impl BookFault {
         }
     }
 
-    pub fn layer(&self) -> Layer
-        ensures { result ≡ (book_fault self.now).layer }
-    {
+    fn layer(&self) -> Layer {
         match self {
             BookFault::Sheet(fault) => fault.layer(),
             BookFault::RcBalance | BookFault::Assessed | BookFault::Charge | BookFault::NoCarrier =>
@@ -65,9 +64,7 @@ impl BookFault {
         }
     }
 
-    pub fn place(&self) -> usize
-        ensures { result ≡ (book_fault self.now).place }
-    {
+    fn place(&self) -> usize {
         match self {
             BookFault::Sheet(fault) => fault.place(),
             BookFault::UnknownCoordinator(row) => *row,
@@ -76,7 +73,7 @@ impl BookFault {
         }
     }
 
-    pub fn reason(&self) -> &'static str {
+    fn reason(&self) -> &'static str {
         match self {
             BookFault::Sheet(fault) => fault.reason(),
             BookFault::Lists => "demands and flags are not equally many, from 1 to 64",
@@ -97,13 +94,8 @@ impl BookFault {
     }
 }
 
-// Question, layer, place, and what was wrong.
 impl fmt::Display for BookFault {
     fn fmt<W: fmt::Write>(&self, f: &mut fmt::Formatter<W>) -> fmt::Result {
-        let question = self.question();
-        let layer = self.layer();
-        let place = self.place();
-        let reason = self.reason();
-        write!(f, "{question} {layer} {place} {reason}")
+        write_fault(self, f)
     }
 }

@@ -1,11 +1,11 @@
 // The year book: the accounts of the coordinators, and the calls that change and read them.
 #![tactic(auto)]
 
-pub mod account;
 pub mod book;
+mod bounds;
+pub mod coordinator;
 pub mod fault;
 mod lines;
-mod shares;
 pub mod side;
-mod terms;
-mod tests;
+mod spreading;
+pub mod terms;

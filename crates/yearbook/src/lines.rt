@@ -1,64 +1,87 @@
 // The lines of a sheet, and the questions that a sheet and its lines put to the book.
-ghost use Rattle.std.specs.Prelude.{◌≡◌, ℕ, ◌<◌, ◌≤◌, length, take, pos, ◌+ℤ◌, slice_index, slice_index_or, unsigned_abs};
+ghost use Rattle.std.specs.Prelude.{◌≡◌, ℕ, ◌<◌, ◌≤◌, length, pos, ◌+ℤ◌, slice_index, slice_index_or, unsigned_abs};
 ghost use Rattle.charges.specs.Rules.{lines, meaning};
+ghost use Rattle.charges.specs.Sums.{total};
 ghost use Rattle.questions.specs.Questions.{acceptance, in_turn, told};
 ghost use Rattle.sheet.specs.Sheets.{sheet_rows};
 ghost use Rattle.year.specs.Market.{balance_refusal, coordinators_refusal};
-ghost use Rattle.yearbook.specs.Accounts.{empty_account};
+ghost use Rattle.yearbook.specs.Coordinators.{each_with, market_raised, nobody};
 ghost use Rattle.yearbook.specs.Faults.{book_fault};
 
-use crate::account::Account;
+use crate::bounds::{MOST_BALANCE, inside};
+use crate::coordinator::Coordinator;
 use crate::fault::BookFault;
-use crate::tests::inside;
+use arrayvec::ArrayVec;
 use charges::quantity::{coordinator_quantity, line_at};
 use charges::rule::ChargeRule;
 use sheet::sheet::Sheet;
 
-const MOST_BALANCE: u64 = 1_000_000_000_000_000;
+// The coordinators' lines, in cents.
+#[derive(Drop)]
+pub(crate) struct Lines {
+    cents: ArrayVec<u64, 64>,
+    ghost few: { length cents.items ≤ 64 },
+    ghost low: { ((k : ℕ) → slice_index cents.items k ≤ 819200000000) },
+}
+
+impl Lines {
+    // The lines of the coordinators below the count.
+    pub(crate) fn of<R: ChargeRule>(rule: &R, rate: u32, sheet: Sheet<'_>, count: usize) -> Lines
+        requires cheap { rate ≤ 10000000 }
+        requires few { count ≤ 64 }
+        ensures { result.cents.items ≡ lines count (meaning (R.code rule.now) (R.quantity rule.now)) rate (sheet_rows sheet.entry) }
+    {
+        let mut cents = ArrayVec::new();
+        for coordinator in 0..count {
+            cents.push(line_at(coordinator_quantity(rule, sheet, coordinator), rate));
+        }
+        Lines { cents }
+    }
+
+    pub(crate) fn total(&self) -> u64
+        ensures { result ≡ total self.now.cents.items }
+    {
+        self.cents.iter().sum()
+    }
+
+    // Question 11: does every market balance stay within bounds with its line added?
+    pub(crate) fn check_balances(&self, coordinators: &[Coordinator]) -> Result<(), BookFault>
+        requires few { length self.now.cents.items ≡ length coordinators.now }
+        requires low { (k : ℕ) → k < length coordinators.now → unsigned_abs (slice_index_or coordinators.now k nobody).market ≤ 1000000000000000 }
+        ensures { told book_fault result ≡ acceptance (in_turn (length coordinators.now) (λ k. balance_refusal k ((slice_index_or coordinators.now k nobody).market +ℤ pos (slice_index self.now.cents.items k)))) }
+    {
+        // By place, which the refusal needs as well.
+        for (place, coordinator) in coordinators.iter().enumerate() {
+            // `as`: no `From` leads from u64 to i64, and the check proves that the line fits.
+            let balance = coordinator.market + self.cents[place] as i64;
+            if !inside(balance, MOST_BALANCE) {
+                return Err(BookFault::MarketBalance(place));
+            }
+        }
+        Ok(())
+    }
+
+    // Adds each line to its market side.
+    pub(crate) fn add_to(&self, coordinators: &mut [Coordinator])
+        requires few { length self.now.cents.items ≡ length coordinators.old }
+        requires low { (k : ℕ) → k < length coordinators.old → unsigned_abs (slice_index_or coordinators.old k nobody).market ≤ 1000000000000000 }
+        ensures { coordinators.new ≡ each_with market_raised coordinators.old self.now.cents.items }
+    {
+        // By place: of a slice that is written through a zip the proof knows nothing.
+        for (place, coordinator) in coordinators.iter_mut().enumerate() {
+            // `as`: no `From` leads from u64 to i64, and the check proves that the line fits.
+            coordinator.market += self.cents[place] as i64;
+        }
+    }
+}
 
 // Question 9: is every coordinator on the sheet below the count?
 pub(crate) fn check_coordinators(sheet: Sheet<'_>, count: usize) -> Result<(), BookFault>
     ensures { told book_fault result ≡ acceptance (coordinators_refusal count sheet.entry.bytes.now) }
 {
-    for row in 0..sheet.len() {
-        if usize::from(sheet.row(row).key.coordinator) >= count {
-            return Err(BookFault::UnknownCoordinator(row));
-        }
-    }
-    Ok(())
-}
-
-// The lines of the first `count` coordinators, with zeros behind.
-pub(crate) fn lines_of<R: ChargeRule>(
-    rule: &R,
-    rate: u32,
-    sheet: Sheet<'_>,
-    count: usize,
-) -> [u64; 64]
-    requires cheap { rate ≤ 10000000 }
-    requires few { count ≤ 64 }
-    ensures long { length result ≡ 64 }
-    ensures low { (k : ℕ) → k < count → slice_index result k ≤ 819200000000 }
-    ensures value { take count result ≡ lines count (meaning (R.code rule.now) (R.quantity rule.now)) rate (sheet_rows sheet.entry) }
-{
-    let mut lines = [0u64; 64];
-    for coordinator in 0..count {
-        lines[coordinator] = line_at(coordinator_quantity(rule, sheet, coordinator), rate);
-    }
-    lines
-}
-
-// Question 11: does every market balance stay within bounds with its line added?
-pub(crate) fn check_balances(table: &[Account], lines: &[u64]) -> Result<(), BookFault>
-    requires few { length lines.now ≤ length table.now }
-    requires low { (k : ℕ) → k < length lines.now → unsigned_abs (slice_index_or table.now k empty_account).market ≤ 1000000000000000 }
-    requires small { (k : ℕ) → k < length lines.now → slice_index lines.now k ≤ 819200000000 }
-    ensures { told book_fault result ≡ acceptance (in_turn (length lines.now) (λ k. balance_refusal k ((slice_index_or table.now k empty_account).market +ℤ pos (slice_index lines.now k)))) }
-{
-    for coordinator in 0..lines.len() {
-        let balance = table[coordinator].market + lines[coordinator] as i64;
-        if !inside(balance, MOST_BALANCE) {
-            return Err(BookFault::MarketBalance(coordinator));
+    for (place, row) in sheet.rows().enumerate() {
+        if usize::from(row.key.coordinator) >= count {
+            return Err(BookFault::UnknownCoordinator(place));
         }
     }
     Ok(())

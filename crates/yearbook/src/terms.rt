@@ -1,54 +1,66 @@
 // What a book is opened with.
-ghost use Rattle.std.specs.Prelude.{◌≡◌, ◌≤◌, ◌&&◌, ◌||◌, length, take, ◌==◌, nat_le};
+ghost use Rattle.std.specs.Prelude.{◌≡◌, ◌≤◌, ◌&&◌, ◌||◌, length, replicate, pos, None, ◌==◌, nat_le};
 ghost use Rattle.questions.specs.Questions.{acceptance, told};
-ghost use Rattle.year.specs.Terms.{open_refusal};
+ghost use Rattle.year.specs.Terms.{open_refusal, terms_of};
+ghost use Rattle.yearbook.specs.Coordinators.{markets, rcs, terms_in};
 ghost use Rattle.yearbook.specs.Faults.{book_fault};
 
+use crate::bounds::{MOST_COORDINATORS, MOST_DEMAND};
+use crate::coordinator::Coordinator;
 use crate::fault::BookFault;
+use arrayvec::ArrayVec;
+
+// The demand and the flag of each coordinator, in two lists of one length; flag 1 marks a transmission operator without
+// load.
+#[derive(Clone, Copy)]
+pub struct Terms<'a> {
+    pub demands: &'a [u32],
+    // Not `bool`: a caller may give any byte, and question 7 refuses one above 1.
+    pub flags: &'a [u8],
+}
 
 fn equally_long(demands: usize, flags: usize) -> bool
     ensures { result ≡ (demands == flags && nat_le 1 demands && nat_le demands 64) }
 {
-    demands == flags && 1 <= demands && demands <= 64
+    demands == flags && (1..=MOST_COORDINATORS).contains(&demands)
 }
 
 fn agree(demand: u32, flag: u8) -> bool
     ensures { result ≡ (nat_le demand 50000000 && nat_le flag 1 && (flag == 0 || demand == 0)) }
 {
-    demand <= 50_000_000 && flag <= 1 && (flag == 0 || demand == 0)
+    demand <= MOST_DEMAND && flag <= 1 && (flag == 0 || demand == 0)
 }
 
 // Questions 6 and 7.
-pub(crate) fn check_terms(demands: &[u32], flags: &[u8]) -> Result<(), BookFault>
-    ensures { told book_fault result ≡ acceptance (open_refusal (record { demands = demands.now; flags = flags.now })) }
+pub(crate) fn check_terms(terms: Terms<'_>) -> Result<(), BookFault>
+    ensures { told book_fault result ≡ acceptance (open_refusal (terms_of terms.entry.demands.now terms.entry.flags.now)) }
 {
-    if !equally_long(demands.len(), flags.len()) {
+    if !equally_long(terms.demands.len(), terms.flags.len()) {
         return Err(BookFault::Lists);
     }
-    for coordinator in 0..demands.len() {
-        if !agree(demands[coordinator], flags[coordinator]) {
+    for (coordinator, (demand, flag)) in terms.demands.iter().zip(terms.flags).enumerate() {
+        if !agree(*demand, *flag) {
             return Err(BookFault::Terms(coordinator));
         }
     }
     Ok(())
 }
 
-// The demands as the book keeps them, with zeros behind.
-pub(crate) fn kept_demands(demands: &[u32]) -> [u32; 64]
-    requires { length demands.now ≤ 64 }
-    ensures { take (length demands.now) result ≡ demands.now }
+// The coordinators that accepted terms name, with nothing on either side.
+pub(crate) fn coordinators_of(terms: Terms<'_>) -> ArrayVec<Coordinator, 64>
+    requires { open_refusal (terms_of terms.demands.now terms.flags.now) ≡ None }
+    ensures terms { terms_in result.items ≡ terms_of terms.entry.demands.now terms.entry.flags.now }
+    ensures markets { markets result.items ≡ replicate (length terms.entry.demands.now) (pos 0) }
+    ensures rcs { rcs result.items ≡ replicate (length terms.entry.demands.now) 0 }
 {
-    let mut kept = [0; 64];
-    kept[0..demands.len()].copy_from_slice(demands);
-    kept
-}
-
-// The flags, likewise.
-pub(crate) fn kept_flags(flags: &[u8]) -> [u8; 64]
-    requires { length flags.now ≤ 64 }
-    ensures { take (length flags.now) result ≡ flags.now }
-{
-    let mut kept = [0; 64];
-    kept[0..flags.len()].copy_from_slice(flags);
-    kept
+    let mut coordinators = ArrayVec::new();
+    for (demand, flag) in terms.demands.iter().zip(terms.flags) {
+        coordinators.push(Coordinator {
+            demand: *demand,
+            flagged: *flag == 1,
+            market: 0,
+            rc: 0,
+        });
+    }
+    coordinators
 }

@@ -7,6 +7,7 @@ ghost use Rattle.engine.specs.Concessions.{Conceded, concession_refusal};
 use super::Engine;
 use crate::concession::ConcessionEntry;
 use concessions::fault::ConcessionFault;
+use concessions::grandfathering::TakesAllowance;
 
 impl Engine {
     // Enters a figure in a concession's table; the book stays.
@@ -26,13 +27,9 @@ impl Engine {
                 coordinator,
                 percent,
             } => self.system_operations.set_percent(coordinator, percent),
-            ConcessionEntry::Grandfathering {
-                coordinator,
-                resource,
-                allowance,
-            } => self
+            ConcessionEntry::Grandfathering { pair, allowance } => self
                 .system_operations
-                .set_allowance(coordinator, resource, allowance),
+                .set_allowance(pair, allowance),
         }
     }
 }

@@ -4,10 +4,10 @@ ghost use Rattle.questions.specs.Questions.{answer, told};
 ghost use Rattle.charges.specs.Rules.{meaning};
 ghost use Rattle.year.specs.Reading.{quote as quoting, quote_refusal};
 ghost use Rattle.yearbook.specs.Faults.{book_fault};
-ghost use Rattle.yearbook.specs.Taken.{Taken, Unaltered};
+ghost use Rattle.yearbook.specs.Taken.{Unaltered};
 ghost use Rattle.yearbook.specs.View.{book_of};
-ghost use Rattle.journal.specs.Entries.{answer_to};
 ghost use Rattle.journal.specs.Kept.{Continued};
+ghost use Rattle.journal.specs.Taken.{EntryTaken};
 ghost use Rattle.engine.specs.Rules.{SameRules, meaning_in, post_call};
 
 use super::Engine;
@@ -27,7 +27,7 @@ fn post<'a, R: ChargeRule>(
     rate: u32,
     sheet: &'a [u8],
 ) -> Result<Answer, BookFault>
-    ensures taken { Taken (book_of book.old.book) (post_call (meaning (R.code rule.now) (R.quantity rule.now)) day rate sheet.now) (answer_to (book_of book.old.book) (post_call (meaning (R.code rule.now) (R.quantity rule.now)) day rate sheet.now)) (book_of book.new.book) (told book_fault result) }
+    ensures taken { EntryTaken book.old.book (post_call (meaning (R.code rule.now) (R.quantity rule.now)) day rate sheet.now) book.new.book result }
     ensures unaltered { Unaltered result book.old.book book.new.book }
     ensures law { Continued (book_of book.old.book) (post_call (meaning (R.code rule.now) (R.quantity rule.now)) day rate sheet.now ∷ []) (book_of book.new.book) }
 {
@@ -40,6 +40,7 @@ fn post<'a, R: ChargeRule>(
     book.enter(&entry)
 }
 
+// Each charge has a rule of another type, so that both calls match on it: no closure is generic in a rule.
 impl Engine {
     // Posts a charge, under the year law.
     pub fn post(
@@ -49,7 +50,7 @@ impl Engine {
         rate: u32,
         sheet: &[u8],
     ) -> Result<Answer, BookFault>
-        ensures taken { Taken (book_of self.old.kept.book) (post_call (meaning_in self.old charge) day rate sheet.now) (answer_to (book_of self.old.kept.book) (post_call (meaning_in self.old charge) day rate sheet.now)) (book_of self.new.kept.book) (told book_fault result) }
+        ensures taken { EntryTaken self.old.kept.book (post_call (meaning_in self.old charge) day rate sheet.now) self.new.kept.book result }
         ensures unaltered { Unaltered result self.old.kept.book self.new.kept.book }
         ensures law { Continued (book_of self.old.kept.book) (post_call (meaning_in self.old charge) day rate sheet.now ∷ []) (book_of self.new.kept.book) }
         ensures rules { SameRules self.old self.new }

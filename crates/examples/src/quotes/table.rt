@@ -1,11 +1,22 @@
 // The quotes that are worked out.
-use crate::quotes::{Charge, Concession, QuoteExample};
+use crate::quotes::QuoteExample;
 use crate::rows::Row;
+use engine::charge::Charge;
+use engine::concession::ConcessionEntry;
+use sheet::pair::Pair;
+
+const METER_1_000_000: [Row; 1] = [Row {
+    resource: 7,
+    part: 0,
+    kind: 20,
+    quantity: 1_000_000,
+}];
 
 pub const EXAMPLES: [QuoteExample; 14] = [
     QuoteExample {
         name: "market services, kinds 1 and 3",
         charge: Charge::MarketServices,
+        concession: None,
         rows: &[
             Row {
                 resource: 7,
@@ -27,6 +38,7 @@ pub const EXAMPLES: [QuoteExample; 14] = [
     QuoteExample {
         name: "market services, kinds 3 and 5",
         charge: Charge::MarketServices,
+        concession: None,
         rows: &[
             Row {
                 resource: 7,
@@ -48,6 +60,7 @@ pub const EXAMPLES: [QuoteExample; 14] = [
     QuoteExample {
         name: "market services, kind 1 below kind 8",
         charge: Charge::MarketServices,
+        concession: None,
         rows: &[
             Row {
                 resource: 7,
@@ -68,7 +81,8 @@ pub const EXAMPLES: [QuoteExample; 14] = [
     },
     QuoteExample {
         name: "meter 90,000",
-        charge: Charge::SystemOperations(Concession::None),
+        charge: Charge::SystemOperations,
+        concession: None,
         rows: &[Row {
             resource: 7,
             part: 0,
@@ -81,7 +95,8 @@ pub const EXAMPLES: [QuoteExample; 14] = [
     },
     QuoteExample {
         name: "meter 12,500",
-        charge: Charge::SystemOperations(Concession::None),
+        charge: Charge::SystemOperations,
+        concession: None,
         rows: &[Row {
             resource: 7,
             part: 0,
@@ -94,7 +109,8 @@ pub const EXAMPLES: [QuoteExample; 14] = [
     },
     QuoteExample {
         name: "meter 110,000",
-        charge: Charge::SystemOperations(Concession::None),
+        charge: Charge::SystemOperations,
+        concession: None,
         rows: &[Row {
             resource: 7,
             part: 0,
@@ -107,39 +123,39 @@ pub const EXAMPLES: [QuoteExample; 14] = [
     },
     QuoteExample {
         name: "meter 1,000,000 with ramp-in 95",
-        charge: Charge::SystemOperations(Concession::RampIn(95)),
-        rows: &[Row {
-            resource: 7,
-            part: 0,
-            kind: 20,
-            quantity: 1_000_000,
-        }],
+        charge: Charge::SystemOperations,
+        concession: Some(ConcessionEntry::RampIn {
+            coordinator: 0,
+            percent: 95,
+        }),
+        rows: &METER_1_000_000,
         rate: 2899,
         quantity: 5_000_000,
         cents: 1_450,
     },
     QuoteExample {
         name: "meter 1,000,000 with exclusion",
-        charge: Charge::SystemOperations(Concession::Exclusion(1)),
-        rows: &[Row {
-            resource: 7,
-            part: 0,
-            kind: 20,
-            quantity: 1_000_000,
-        }],
+        charge: Charge::SystemOperations,
+        concession: Some(ConcessionEntry::SystemOperationsExclusion {
+            coordinator: 0,
+            mark: 1,
+        }),
+        rows: &METER_1_000_000,
         rate: 2899,
         quantity: 0,
         cents: 0,
     },
     QuoteExample {
         name: "meter 1,000,000 with allowance 30,000,000",
-        charge: Charge::SystemOperations(Concession::Grandfathering(30_000_000)),
-        rows: &[Row {
-            resource: 7,
-            part: 0,
-            kind: 20,
-            quantity: 1_000_000,
-        }],
+        charge: Charge::SystemOperations,
+        concession: Some(ConcessionEntry::Grandfathering {
+            pair: Pair {
+                coordinator: 0,
+                resource: 7,
+            },
+            allowance: 30_000_000,
+        }),
+        rows: &METER_1_000_000,
         rate: 2899,
         quantity: 70_000_000,
         cents: 20_293,
@@ -147,6 +163,7 @@ pub const EXAMPLES: [QuoteExample; 14] = [
     QuoteExample {
         name: "three bids and one self-schedule",
         charge: Charge::BidSegment,
+        concession: None,
         rows: &[
             Row {
                 resource: 7,
@@ -180,6 +197,7 @@ pub const EXAMPLES: [QuoteExample; 14] = [
     QuoteExample {
         name: "one segment",
         charge: Charge::BidSegment,
+        concession: None,
         rows: &[Row {
             resource: 7,
             part: 0,
@@ -193,6 +211,7 @@ pub const EXAMPLES: [QuoteExample; 14] = [
     QuoteExample {
         name: "five segments",
         charge: Charge::BidSegment,
+        concession: None,
         rows: &[
             Row {
                 resource: 7,
@@ -232,6 +251,7 @@ pub const EXAMPLES: [QuoteExample; 14] = [
     QuoteExample {
         name: "TOR supply 100,000 and demand 60,000",
         charge: Charge::Tor,
+        concession: None,
         rows: &[
             Row {
                 resource: 0,
@@ -253,6 +273,7 @@ pub const EXAMPLES: [QuoteExample; 14] = [
     QuoteExample {
         name: "two trade sides",
         charge: Charge::TradeFee,
+        concession: None,
         rows: &[
             Row {
                 resource: 7,

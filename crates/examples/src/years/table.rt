@@ -2,7 +2,9 @@
 use crate::years::YearExample;
 use charges::trade_fee::TradeFee;
 use journal::entry::Entry;
+use yearbook::fault::BookFault;
 use yearbook::side::Side;
+use yearbook::terms::Terms;
 
 // One trade side of coordinator 0.
 const TRADE: [u8; 12] = [0, 1, 0, 7, 1, 1, 0, 40, 0, 0, 0, 0];
@@ -10,20 +12,24 @@ const TRADE: [u8; 12] = [0, 1, 0, 7, 1, 1, 0, 40, 0, 0, 0, 0];
 pub const EXAMPLES: [YearExample; 13] = [
     YearExample {
         name: "1,000 over demands 1, 1, 1",
-        demands: &[1, 1, 1],
-        flags: &[0, 0, 0],
+        terms: Terms {
+            demands: &[1, 1, 1],
+            flags: &[0, 0, 0],
+        },
         entries: &[Entry::Assess {
             charge: 1000,
             minimum: 0,
         }],
-        question: None,
+        refusal: None,
         market: 0,
         rc: &[333, 333, 334],
     },
     YearExample {
         name: "1,000 over demands 1, 1, 1, then coordinator 1 defaults on 100",
-        demands: &[1, 1, 1],
-        flags: &[0, 0, 0],
+        terms: Terms {
+            demands: &[1, 1, 1],
+            flags: &[0, 0, 0],
+        },
         entries: &[
             Entry::Assess {
                 charge: 1000,
@@ -34,14 +40,16 @@ pub const EXAMPLES: [YearExample; 13] = [
                 unpaid: 100,
             },
         ],
-        question: None,
+        refusal: None,
         market: 0,
         rc: &[383, 233, 384],
     },
     YearExample {
         name: "1,000 over demands 1, 1, 1, then coordinator 1 defaults on 1",
-        demands: &[1, 1, 1],
-        flags: &[0, 0, 0],
+        terms: Terms {
+            demands: &[1, 1, 1],
+            flags: &[0, 0, 0],
+        },
         entries: &[
             Entry::Assess {
                 charge: 1000,
@@ -52,14 +60,16 @@ pub const EXAMPLES: [YearExample; 13] = [
                 unpaid: 1,
             },
         ],
-        question: None,
+        refusal: None,
         market: 0,
         rc: &[333, 332, 335],
     },
     YearExample {
         name: "1,000 over demands 1, 1, 1, then coordinator 1 defaults on 100 and coordinator 0 on 83",
-        demands: &[1, 1, 1],
-        flags: &[0, 0, 0],
+        terms: Terms {
+            demands: &[1, 1, 1],
+            flags: &[0, 0, 0],
+        },
         entries: &[
             Entry::Assess {
                 charge: 1000,
@@ -74,26 +84,30 @@ pub const EXAMPLES: [YearExample; 13] = [
                 unpaid: 83,
             },
         ],
-        question: None,
+        refusal: None,
         market: 0,
         rc: &[300, 274, 426],
     },
     YearExample {
         name: "a minimum of 100 for a flagged coordinator",
-        demands: &[1, 0, 1],
-        flags: &[0, 1, 0],
+        terms: Terms {
+            demands: &[1, 0, 1],
+            flags: &[0, 1, 0],
+        },
         entries: &[Entry::Assess {
             charge: 1000,
             minimum: 100,
         }],
-        question: None,
+        refusal: None,
         market: 0,
         rc: &[450, 100, 450],
     },
     YearExample {
         name: "an assessment twice",
-        demands: &[1, 1, 1],
-        flags: &[0, 0, 0],
+        terms: Terms {
+            demands: &[1, 1, 1],
+            flags: &[0, 0, 0],
+        },
         entries: &[
             Entry::Assess {
                 charge: 1000,
@@ -104,14 +118,16 @@ pub const EXAMPLES: [YearExample; 13] = [
                 minimum: 0,
             },
         ],
-        question: Some(15),
+        refusal: Some(BookFault::Assessed),
         market: 0,
         rc: &[333, 333, 334],
     },
     YearExample {
         name: "an RC payment of the balance",
-        demands: &[1, 1, 1],
-        flags: &[0, 0, 0],
+        terms: Terms {
+            demands: &[1, 1, 1],
+            flags: &[0, 0, 0],
+        },
         entries: &[
             Entry::Assess {
                 charge: 1000,
@@ -123,14 +139,16 @@ pub const EXAMPLES: [YearExample; 13] = [
                 amount: 333,
             },
         ],
-        question: None,
+        refusal: None,
         market: 0,
         rc: &[0, 333, 334],
     },
     YearExample {
         name: "an RC payment of one cent more",
-        demands: &[1, 1, 1],
-        flags: &[0, 0, 0],
+        terms: Terms {
+            demands: &[1, 1, 1],
+            flags: &[0, 0, 0],
+        },
         entries: &[
             Entry::Assess {
                 charge: 1000,
@@ -142,14 +160,16 @@ pub const EXAMPLES: [YearExample; 13] = [
                 amount: 334,
             },
         ],
-        question: Some(14),
+        refusal: Some(BookFault::RcBalance),
         market: 0,
         rc: &[333, 333, 334],
     },
     YearExample {
         name: "a default in a book of one",
-        demands: &[5],
-        flags: &[0],
+        terms: Terms {
+            demands: &[5],
+            flags: &[0],
+        },
         entries: &[
             Entry::Assess {
                 charge: 10,
@@ -160,42 +180,48 @@ pub const EXAMPLES: [YearExample; 13] = [
                 unpaid: 1,
             },
         ],
-        question: Some(17),
+        refusal: Some(BookFault::NoCarrier),
         market: 0,
         rc: &[10],
     },
     YearExample {
         name: "a post on day 366",
-        demands: &[1, 1, 1],
-        flags: &[0, 0, 0],
+        terms: Terms {
+            demands: &[1, 1, 1],
+            flags: &[0, 0, 0],
+        },
         entries: &[Entry::Post {
             rule: &TradeFee {},
             day: 366,
             rate: 5000,
             sheet: &TRADE,
         }],
-        question: None,
+        refusal: None,
         market: 50,
         rc: &[0, 0, 0],
     },
     YearExample {
         name: "a post on day 367",
-        demands: &[1, 1, 1],
-        flags: &[0, 0, 0],
+        terms: Terms {
+            demands: &[1, 1, 1],
+            flags: &[0, 0, 0],
+        },
         entries: &[Entry::Post {
             rule: &TradeFee {},
             day: 367,
             rate: 5000,
             sheet: &TRADE,
         }],
-        question: Some(8),
+        refusal: Some(BookFault::RateOrDay),
         market: 0,
         rc: &[0, 0, 0],
     },
     YearExample {
         name: "a day posted twice",
-        demands: &[1, 1, 1],
-        flags: &[0, 0, 0],
+        terms: Terms {
+            demands: &[1, 1, 1],
+            flags: &[0, 0, 0],
+        },
         entries: &[
             Entry::Post {
                 rule: &TradeFee {},
@@ -210,14 +236,16 @@ pub const EXAMPLES: [YearExample; 13] = [
                 sheet: &TRADE,
             },
         ],
-        question: Some(10),
+        refusal: Some(BookFault::Posted),
         market: 50,
         rc: &[0, 0, 0],
     },
     YearExample {
         name: "a post, an adjustment of -10 and a payment of 5",
-        demands: &[1, 1, 1],
-        flags: &[0, 0, 0],
+        terms: Terms {
+            demands: &[1, 1, 1],
+            flags: &[0, 0, 0],
+        },
         entries: &[
             Entry::Post {
                 rule: &TradeFee {},
@@ -235,7 +263,7 @@ pub const EXAMPLES: [YearExample; 13] = [
                 amount: 5,
             },
         ],
-        question: None,
+        refusal: None,
         market: 35,
         rc: &[0, 0, 0],
     },

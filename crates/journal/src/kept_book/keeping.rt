@@ -1,11 +1,12 @@
 // Opening a year, taking entries, and reading its book.
 ghost use Rattle.std.specs.Prelude.{◌≡◌, [], ◌∷◌};
 ghost use Rattle.questions.specs.Questions.{acceptance, told};
-ghost use Rattle.year.specs.Terms.{open_refusal, terms_of};
+ghost use Rattle.year.specs.Terms.{open_refusal};
 ghost use Rattle.yearbook.specs.Faults.{book_fault};
-ghost use Rattle.yearbook.specs.Taken.{Taken, Unaltered};
+ghost use Rattle.yearbook.specs.Taken.{Unaltered};
 ghost use Rattle.yearbook.specs.View.{book_of, unopened};
-ghost use Rattle.journal.specs.Entries.{answer_to, call_of};
+ghost use Rattle.journal.specs.Entries.{call_of};
+ghost use Rattle.journal.specs.Taken.{EntryTaken, given};
 ghost use Rattle.journal.specs.Kept.{AnyYear, Continued, Kept};
 
 use super::KeptBook;
@@ -14,6 +15,7 @@ use crate::kept_year::{enter, open_year};
 use charges::rule::ChargeRule;
 use yearbook::book::YearBook;
 use yearbook::fault::BookFault;
+use yearbook::terms::Terms;
 
 impl KeptBook {
     // A book not yet opened.
@@ -26,17 +28,17 @@ impl KeptBook {
     }
 
     // Opens the book. A refused opening leaves it.
-    pub fn open(&mut self, demands: &[u32], flags: &[u8]) -> Result<(), BookFault>
-        ensures opened { told book_fault result ≡ acceptance (open_refusal (terms_of demands.now flags.now)) }
+    pub fn open(&mut self, terms: Terms<'_>) -> Result<(), BookFault>
+        ensures opened { told book_fault result ≡ acceptance (open_refusal (given terms.entry)) }
         ensures unaltered { Unaltered result self.old.book self.new.book }
-        ensures law { Kept (open_refusal (terms_of demands.now flags.now)) (terms_of demands.now flags.now) [] (book_of self.old.book) (book_of self.new.book) }
+        ensures law { Kept (open_refusal (given terms.entry)) (given terms.entry) [] (book_of self.old.book) (book_of self.new.book) }
     {
-        open_year(&mut self.book, demands, flags)
+        open_year(&mut self.book, terms)
     }
 
     // Takes an entry.
     pub fn enter<R: ChargeRule>(&mut self, entry: &Entry<'_, R>) -> Result<Answer, BookFault>
-        ensures taken { Taken (book_of self.old.book) (call_of R.code R.quantity entry.now) (answer_to (book_of self.old.book) (call_of R.code R.quantity entry.now)) (book_of self.new.book) (told book_fault result) }
+        ensures taken { EntryTaken self.old.book (call_of R.code R.quantity entry.now) self.new.book result }
         ensures unaltered { Unaltered result self.old.book self.new.book }
         ensures law { Continued (book_of self.old.book) (call_of R.code R.quantity entry.now ∷ []) (book_of self.new.book) }
     {

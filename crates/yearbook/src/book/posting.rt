@@ -1,5 +1,5 @@
 // Posting a rule's lines, and quoting one.
-ghost use Rattle.std.specs.Prelude.{◌≡◌, length, Some, MatchResult};
+ghost use Rattle.std.specs.Prelude.{◌≡◌, ◌<◌, true, length, Some, MatchResult, slice_set};
 ghost use Rattle.charges.specs.Rules.{meaning};
 ghost use Rattle.questions.specs.Questions.{answer, told};
 ghost use Rattle.year.specs.Book.{of_market, refusal};
@@ -10,14 +10,21 @@ ghost use Rattle.yearbook.specs.Taken.{Billed, Taken, Unaltered};
 ghost use Rattle.yearbook.specs.View.{book_of};
 
 use super::YearBook;
+use crate::bounds::{MOST_RATE, rate_and_day};
 use crate::fault::BookFault;
-use crate::lines::{check_balances, check_coordinators, lines_of};
-use crate::tests::rate_and_day;
+use crate::lines::{Lines, check_coordinators};
 use charges::quantity::{coordinator_quantity, line_at};
 use charges::rule::ChargeRule;
-use sheet::check::check;
 use sheet::sheet::Sheet;
-use year::shares::sum_of;
+
+// Marks a code of a day as posted.
+fn mark(codes: &mut [bool; 16], code: usize)
+    requires { code < 16 }
+    ensures marked { codes.new ≡ slice_set codes.old code true }
+    ensures sixteen { length codes.old ≡ 16 }
+{
+    codes[code] = true;
+}
 
 impl YearBook {
     // The lines of a post that passes its questions.
@@ -27,21 +34,20 @@ impl YearBook {
         day: u16,
         rate: u32,
         bytes: &[u8],
-    ) -> Result<[u64; 64], BookFault>
-        ensures { MatchResult result (λ lines. Billed (book_of self.now) (meaning (R.code rule.now) (R.quantity rule.now)) day rate bytes.now lines) (λ fault. refusal (book_of self.now) (of_market (posting (meaning (R.code rule.now) (R.quantity rule.now)) day rate bytes.now)) ≡ Some (book_fault fault)) }
+    ) -> Result<Lines, BookFault>
+        ensures { MatchResult result (λ lines. Billed (book_of self.now) (meaning (R.code rule.now) (R.quantity rule.now)) day rate bytes.now lines.cents.items) (λ fault. refusal (book_of self.now) (of_market (posting (meaning (R.code rule.now) (R.quantity rule.now)) day rate bytes.now)) ≡ Some (book_fault fault)) }
     {
         if !rate_and_day(rate, day) {
             return Err(BookFault::RateOrDay);
         }
-        check(bytes)?;
-        let sheet = Sheet::accepted(bytes);
-        let n = self.count;
-        check_coordinators(sheet, n)?;
-        if self.posted[usize::from(day) * 16 + usize::from(rule.tell_code())] {
+        let sheet = Sheet::try_from(bytes)?;
+        let count = self.coordinators.len();
+        check_coordinators(sheet, count)?;
+        if self.posted[usize::from(day)][usize::from(rule.tell_code())] {
             return Err(BookFault::Posted);
         }
-        let lines = lines_of(rule, rate, sheet, n);
-        check_balances(&self.accounts.table, &lines[0..n])?;
+        let lines = Lines::of(rule, rate, sheet, count);
+        lines.check_balances(&self.coordinators)?;
         Ok(lines)
     }
 
@@ -57,10 +63,12 @@ impl YearBook {
         ensures unaltered { Unaltered result self.old self.new }
     {
         let lines = self.check_post(rule, day, rate, bytes)?;
-        let n = self.count;
-        self.accounts.raise_market(&lines[0..n]);
-        self.posted[usize::from(day) * 16 + usize::from(rule.tell_code())] = true;
-        Ok(sum_of(&lines[0..n]))
+        lines.add_to(&mut self.coordinators);
+        mark(
+            &mut self.posted[usize::from(day)],
+            usize::from(rule.tell_code()),
+        );
+        Ok(lines.total())
     }
 
     // The charge quantity of a coordinator, together with its line.
@@ -73,15 +81,12 @@ impl YearBook {
     ) -> Result<(u64, u64), BookFault>
         ensures { told book_fault result ≡ answer (quote_refusal (book_of self.now) rate bytes.now coordinator) (quoting (meaning (R.code rule.now) (R.quantity rule.now)) rate bytes.now coordinator) }
     {
-        if rate > 10_000_000 {
+        if rate > MOST_RATE {
             return Err(BookFault::RateOrDay);
         }
-        check(bytes)?;
-        let sheet = Sheet::accepted(bytes);
-        check_coordinators(sheet, self.count)?;
-        if coordinator >= self.count {
-            return Err(BookFault::Coordinator);
-        }
+        let sheet = Sheet::try_from(bytes)?;
+        check_coordinators(sheet, self.coordinators.len())?;
+        self.coordinator(coordinator)?;
         let quantity = coordinator_quantity(rule, sheet, coordinator);
         Ok((quantity, line_at(quantity, rate)))
     }

@@ -1,37 +1,43 @@
 // The RC charge: assessing it, paying it, and defaults on it.
-ghost use Rattle.std.specs.Prelude.{◌≡◌, None};
-ghost use Rattle.questions.specs.Questions.{acceptance, told};
+ghost use Rattle.std.specs.Prelude.{◌≡◌, ◌<◌, ◌≤◌, ◌&&◌, length, IfErr, IfOk, Some, None, nat_le, nat_lt, slice_index_or};
+ghost use Rattle.questions.specs.Questions.{acceptance, ask, told};
 ghost use Rattle.year.specs.Book.{effect, of_rc, refusal};
-ghost use Rattle.year.specs.Rc.{assess as assessing, default, pay_rc};
+ghost use Rattle.year.specs.Rc.{assess as assessing, default, pay_rc, rc_balance};
+ghost use Rattle.year.specs.Terms.{count};
+ghost use Rattle.yearbook.specs.Coordinators.{nobody};
 ghost use Rattle.yearbook.specs.Faults.{book_fault};
 ghost use Rattle.yearbook.specs.Taken.{Done, Unaltered};
 ghost use Rattle.yearbook.specs.View.{book_of};
 
 use super::YearBook;
+use crate::bounds::{MOST_AMOUNT, MOST_CHARGE, between, charge_in_range};
+use crate::coordinator::Coordinator;
 use crate::fault::BookFault;
-use crate::shares::{can_spread, count_flagged, minimums_of, shares_of};
-use crate::tests::{between, charge_in_range};
-
-const MOST_PAYMENT: u64 = 1_000_000_000_000;
-
-const MOST_CHARGE: u64 = 2_000_000_000;
+use crate::spreading::{carry, charge_each, count_flagged, total_demand};
 
 impl YearBook {
+    // Questions 12 to 14: the coordinator, if the amount is from 1 to `most` and it owes that much.
+    fn owing(&self, coordinator: usize, amount: u64, most: u64) -> Result<Coordinator, BookFault>
+        ensures owes { IfOk result (λ owing. (coordinator < length self.now.coordinators.items) × (owing ≡ slice_index_or self.now.coordinators.items coordinator nobody) × (1 ≤ amount) × (amount ≤ most) × (amount ≤ owing.rc)) }
+        ensures asked { IfErr result (λ fault. ask (nat_lt coordinator (count (book_of self.now).terms)) 12 0 (ask (nat_le 1 amount && nat_le amount most) 13 0 (ask (nat_le amount (rc_balance (book_of self.now).rc coordinator)) 14 0 None)) ≡ Some (book_fault fault)) }
+    {
+        let owing = self.coordinator(coordinator)?;
+        if !between(amount, 1, most) {
+            return Err(BookFault::Amount);
+        }
+        if amount > owing.rc {
+            return Err(BookFault::RcBalance);
+        }
+        Ok(owing)
+    }
+
     // Subtracts a payment from an RC balance.
     pub(crate) fn pay_rc(&mut self, coordinator: usize, amount: u64) -> Result<(), BookFault>
         ensures taken { Done (book_of self.old) (of_rc (pay_rc coordinator amount)) (book_of self.new) (told book_fault result) }
         ensures unaltered { Unaltered result self.old self.new }
     {
-        if coordinator >= self.count {
-            return Err(BookFault::Coordinator);
-        }
-        if !between(amount, 1, MOST_PAYMENT) {
-            return Err(BookFault::Amount);
-        }
-        if amount > self.accounts.table[coordinator].rc {
-            return Err(BookFault::RcBalance);
-        }
-        self.accounts.pay_rc(coordinator, amount);
+        self.owing(coordinator, amount, MOST_AMOUNT)?;
+        self.coordinators[coordinator].rc -= amount;
         Ok(())
     }
 
@@ -40,24 +46,13 @@ impl YearBook {
         ensures taken { Done (book_of self.old) (of_rc (default debtor unpaid)) (book_of self.new) (told book_fault result) }
         ensures unaltered { Unaltered result self.old self.new }
     {
-        let n = self.count;
-        if debtor >= n {
-            return Err(BookFault::Coordinator);
-        }
-        if !between(unpaid, 1, MOST_CHARGE) {
-            return Err(BookFault::Amount);
-        }
-        if unpaid > self.accounts.table[debtor].rc {
-            return Err(BookFault::RcBalance);
-        }
-        let mut weights = self.demands;
-        weights[debtor] = 0;
-        if !can_spread(unpaid, &weights[0..n]) {
+        let owing = self.owing(debtor, unpaid, MOST_CHARGE)?;
+        let demand_of_others = total_demand(&self.coordinators) - u64::from(owing.demand);
+        if demand_of_others == 0 {
             return Err(BookFault::NoCarrier);
         }
-        let shares = shares_of(unpaid, &weights[0..n]);
-        self.accounts.pay_rc(debtor, unpaid);
-        self.accounts.raise_rc(&shares[0..n]);
+        self.coordinators[debtor].rc -= unpaid;
+        carry(&mut self.coordinators, debtor, unpaid, demand_of_others);
         Ok(())
     }
 
@@ -68,12 +63,12 @@ impl YearBook {
         if self.charge.is_some() {
             return Err(BookFault::Assessed);
         }
-        let n = self.count;
-        let flagged = count_flagged(&self.flags[0..n]);
+        let flagged = count_flagged(&self.coordinators);
         if !charge_in_range(charge, minimum, flagged) {
             return Err(BookFault::Charge);
         }
-        if !can_spread(charge - minimum * flagged, &self.demands[0..n]) {
+        let rest = charge - minimum * flagged;
+        if rest > 0 && total_demand(&self.coordinators) == 0 {
             return Err(BookFault::NoCarrier);
         }
         Ok(())
@@ -84,12 +79,7 @@ impl YearBook {
         requires { refusal (book_of self.old) (of_rc (assessing charge minimum)) ≡ None }
         ensures { book_of self.new ≡ effect (book_of self.old) (of_rc (assessing charge minimum)) }
     {
-        let n = self.count;
-        let minimums = minimums_of(&self.flags[0..n], minimum);
-        let rest = charge - minimum * count_flagged(&self.flags[0..n]);
-        let shares = shares_of(rest, &self.demands[0..n]);
-        self.accounts.raise_rc(&minimums[0..n]);
-        self.accounts.raise_rc(&shares[0..n]);
+        charge_each(&mut self.coordinators, charge, minimum);
         self.charge = Some(charge);
     }
 

@@ -2,6 +2,6 @@ use Rattle.std.proofs.Common.{◌≡◌, length}
 use Rattle.charges.proofs.Quantities.{Marked}
 use Rattle.charges.proofs.quantity.resources_of.Given as goal
 
--- the marks are those of the rows so far
-abbrev pub invariant-loop-i : goal.invariant-loop-i
-invariant-loop-i l = (length l.present ≡ 256) × Marked l.sheet.bytes.now l.coordinator l.i l.present
+-- the marks are those of the rows read so far
+abbrev pub invariant-loop-row : goal.invariant-loop-row
+invariant-loop-row l = (length l.present ≡ 256) × Marked l.coordinator l.yielded l.present

@@ -3,5 +3,5 @@ use Rattle.journal.specs.Entries.{call_of}
 use Rattle.journal.proofs.Turns.{Taking}
 use Rattle.journal.proofs.kept_year.enter_all.Given as goal
 
-abbrev pub invariant-loop-i : goal.invariant-loop-i
-invariant-loop-i g l = Taking (call_of g.R.ChargeRule.code g.R.ChargeRule.quantity) (book_of l.initial.book) l.entries l.initial.answers (book_of l.book) l.answers l.i
+abbrev pub invariant-loop-place : goal.invariant-loop-place
+invariant-loop-place g l = Taking (call_of g.R.ChargeRule.code g.R.ChargeRule.quantity) (book_of l.initial.book) l.entries l.initial.answers (book_of l.book) l.answers l.place

@@ -10,22 +10,22 @@ pub returns-in_err-count : goal.returns-in_err-count
 unfolding ask first sheet_refusal
 returns-in_err-count c =
     let v : told sheet_fault c.from_residual.result ≡ answer (sheet_refusal c.args.bytes.now) (row_count c.args.bytes.now) = search rules in
-    record { answered = v; meaning = first_no_of c.args.bytes.now _ v; asked = first_asked_no_of c.args.bytes.now _ v }
+    record { answered = v; meaning = first_no_of c.args.bytes.now _ v; asked = first_asked_no_of c.args.bytes.now _ v; parts = search rules }
 
 pub returns-then-bytes-count : goal.returns-then-bytes-count
 unfolding ask first sheet_refusal
 returns-then-bytes-count c =
     let v : Err (no_at 2 0) ≡ answer (sheet_refusal c.args.bytes.now) (row_count c.args.bytes.now) = search rules in
-    record { answered = v; meaning = first_no_of c.args.bytes.now _ v; asked = first_asked_no_of c.args.bytes.now _ v }
+    record { answered = v; meaning = first_no_of c.args.bytes.now _ v; asked = first_asked_no_of c.args.bytes.now _ v; parts = search rules }
 
 pub returns-in_err-check_rows : goal.returns-in_err-check_rows
 unfolding ask first sheet_refusal
 returns-in_err-check_rows c =
     let v : told sheet_fault c.from_residual-in_err-check_rows.result ≡ answer (sheet_refusal c.args.bytes.now) (row_count c.args.bytes.now) = search rules in
-    record { answered = v; meaning = first_no_of c.args.bytes.now _ v; asked = first_asked_no_of c.args.bytes.now _ v }
+    record { answered = v; meaning = first_no_of c.args.bytes.now _ v; asked = first_asked_no_of c.args.bytes.now _ v; parts = search rules }
 
 pub returns : goal.returns
 unfolding ask first sheet_refusal
 returns c =
     let v : Ok c.in_ok-count.count ≡ answer (sheet_refusal c.args.bytes.now) (row_count c.args.bytes.now) = search rules in
-    record { answered = v; meaning = first_no_of c.args.bytes.now _ v; asked = first_asked_no_of c.args.bytes.now _ v }
+    record { answered = v; meaning = first_no_of c.args.bytes.now _ v; asked = first_asked_no_of c.args.bytes.now _ v; parts = search rules }

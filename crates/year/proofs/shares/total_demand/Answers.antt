@@ -1,17 +1,16 @@
-use Rattle.std.proofs.Common.{◌+◌, ap, ◌∙◌, arith, take_all, rules}
+use Rattle.std.proofs.Common.{◌≡◌, ◌<◌, ◌^◌, sum, ap, ◌∙◌, rules}
+use borrow.Author.Tests.{tests}
+use Rattle.std.proofs.lemmas.List.{map-id}
 use Rattle.charges.specs.Sums.{total}
-use Rattle.year.proofs.Sums.{total_next, total_take_le}
+use Rattle.year.proofs.Sums.{sum_by_is}
 use Rattle.year.proofs.shares.total_demand.Goals as goal
 
-pub overflow_add-sum : goal.overflow_add-sum
-overflow_add-sum c =
-    let m = total_next c.args.demands.now c.loop-demand.demand-index (omega arith) in
-    let l = total_take_le (c.loop-demand.demand-index + 1) c.args.demands.now in
-    let bound = c.requires in
-    search rules
-
-pub loop-demand-preserved : goal.loop-demand-preserved
-loop-demand-preserved c = let m = total_next c.args.demands.now c.loop-demand.demand-index (omega arith) in (omega arith, omega arith)
+pub sum-requires-clause-fits : goal.sum-requires-clause-fits
+sum-requires-clause-fits c =
+    let b : sum c.args.demands.now < 2 ^ 64 = rw (sum_by_is (λ x. x) c.args.demands.now, map-id) c.requires in
+    search (rules, tests)
 
 pub returns : goal.returns
-returns c = c.loop-demand.invariant.0 ∙ ap total (take_all c.loop-demand.demand-index c.args.demands.now c.loop-demand-test.false)
+returns c =
+    let e : c.sum.result ≡ sum c.args.demands.now = search (rules, tests) in
+    e ∙ sum_by_is (λ x. x) c.args.demands.now ∙ ap total (map-id c.args.demands.now)

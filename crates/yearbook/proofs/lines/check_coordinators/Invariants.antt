@@ -1,7 +1,7 @@
-use Rattle.std.proofs.Common.{◌≡◌, None}
+use Rattle.std.proofs.Common.{◌≡◌, length, None}
 use Rattle.questions.specs.Questions.{in_turn}
 use Rattle.yearbook.proofs.Posting.{coordinator_question}
 use Rattle.yearbook.proofs.lines.check_coordinators.Given as goal
 
-abbrev pub invariant-loop-row : goal.invariant-loop-row
-invariant-loop-row l = in_turn l.row (coordinator_question l.count l.sheet.bytes.now) ≡ None
+abbrev pub invariant-loop-place : goal.invariant-loop-place
+invariant-loop-place l = in_turn (length l.yielded) (coordinator_question l.count l.fn.sheet.bytes.now) ≡ None

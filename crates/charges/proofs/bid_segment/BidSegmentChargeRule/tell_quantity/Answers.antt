@@ -11,14 +11,14 @@ use Rattle.charges.proofs.bid_segment.BidSegmentChargeRule.tell_quantity.Goals a
 pub overflow_mul-result : goal.overflow_mul-result
 overflow_mul-result c =
     let sheet = c.args.sheet in
-    let low = pair_low sheet.bytes.now sheet.accepted segment_figures c.args.coordinator c.args.resource 5 segment_figures_bounded in
+    let low = pair_low sheet.bytes.now sheet.accepted segment_figures c.args.pair.coordinator c.args.pair.resource 5 segment_figures_bounded in
     let e = c.total_of.ensures.value in
     search rules
 
 pub returns : goal.returns
 returns c =
     let sheet = c.args.sheet in
-    let coordinator = c.args.coordinator in
-    let resource = c.args.resource in
+    let coordinator = c.args.pair.coordinator in
+    let resource = c.args.pair.resource in
     ap (λ x. 100000 * x) c.total_of.ensures.value
     ∙ segment_arrives coordinator resource (pair_rows coordinator resource (sheet_rows sheet)) (pair_accepted sheet.bytes.now sheet.accepted coordinator resource)

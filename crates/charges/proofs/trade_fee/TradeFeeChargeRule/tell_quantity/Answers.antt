@@ -10,14 +10,14 @@ use Rattle.charges.proofs.trade_fee.TradeFeeChargeRule.tell_quantity.Goals as go
 pub overflow_mul-result : goal.overflow_mul-result
 overflow_mul-result c =
     let sheet = c.args.sheet in
-    let low = pair_low sheet.bytes.now sheet.accepted trade_figures c.args.coordinator c.args.resource 1 trade_figures_bounded in
+    let low = pair_low sheet.bytes.now sheet.accepted trade_figures c.args.pair.coordinator c.args.pair.resource 1 trade_figures_bounded in
     let e = c.total_of.ensures.value in
     search rules
 
 pub returns : goal.returns
 returns c =
     let sheet = c.args.sheet in
-    let coordinator = c.args.coordinator in
-    let resource = c.args.resource in
+    let coordinator = c.args.pair.coordinator in
+    let resource = c.args.pair.resource in
     ap (λ x. 100000 * x) c.total_of.ensures.value
     ∙ trade_arrives coordinator resource (pair_rows coordinator resource (sheet_rows sheet))

@@ -1,21 +1,16 @@
-use Rattle.std.proofs.Common.{get_or, take, sym, ap, ◌∙◌, arith}
-use Rattle.std.proofs.lemmas.List.{get_or-take, length-take-le}
-use Rattle.concessions.proofs.Lookup.{none, allowance_at, no_allowance}
+use Rattle.std.proofs.Common.{◌≡◌, ap, ◌∙◌, rules, tests}
+use Rattle.std.specs.Option.{option_map}
+use Rattle.std.specs.List.{find}
+use Rattle.std.proofs.lemmas.Iterator.{YieldsList-from_slice}
+use Rattle.std.proofs.lemmas.Iterator.Search.{find_from_yields_List}
+use Rattle.concessions.specs.Concessions.{lists}
+use Rattle.concessions.proofs.Lookup.{allowance_found, quantity_or_zero, quantity_told}
 use Rattle.concessions.proofs.allowances.Allowances.get.Goals as goal
 
-pub returns-then-place-self : goal.returns-then-place-self
-returns-then-place-self c =
-    let s = c.args.self.now in
-    let at = c.place_of-place.result in
-    let listed = take s.count s.places in
-    let is = c.place_of-place.ensures in
-    let long = length-take-le s.count s.places (omega arith) in
-    ap (λ a. a.quantity) (sym (get_or-take s.count s.places at none c.if-place-self.true) ∙ ap (λ n. get_or listed n none) is)
-    ∙ sym (allowance_at c.args.coordinator c.args.resource listed (omega arith))
-
-pub returns-else-place-self : goal.returns-else-place-self
-returns-else-place-self c =
-    let s = c.args.self.now in
-    let is = c.place_of-place.ensures in
-    let long = length-take-le s.count s.places (omega arith) in
-    sym (no_allowance c.args.coordinator c.args.resource _ (omega arith))
+pub returns : goal.returns
+returns c =
+    let coordinator = c.args.pair.coordinator in
+    let resource = c.args.pair.resource in
+    let listed = c.args.self.now.entries.items in
+    let found : option_map (λ a. a.now) c.find.result ≡ find (lists coordinator resource) listed = find_from_yields_List (lists coordinator resource) _ _ c.find.result c.find.ensures.ran (YieldsList-from_slice listed cc) (λ x b q k. search (rules, tests)) in
+    quantity_told c.find.result c.map_or.result c.map_or.ensures (λ a told. search rules) ∙ ap quantity_or_zero found ∙ allowance_found coordinator resource listed

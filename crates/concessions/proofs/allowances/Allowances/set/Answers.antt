@@ -1,53 +1,52 @@
-use Rattle.std.proofs.Common.{sym, refl, ap, arith, rules}
-use Rattle.questions.specs.Questions.{acceptance, ask}
-use Rattle.concessions.specs.Concessions.{range_refusal}
-use Rattle.concessions.proofs.Lookup.{at_low, entered_in_place, entered_behind, accepted, refused}
+use Rattle.std.proofs.Common.{rules, ◌∙◌, sym, subst}
+use Rattle.std.proofs.lemmas.List.Quantifiers.{position-Some}
+use Rattle.questions.specs.Questions.{ask}
+use Rattle.concessions.specs.Concessions.{lists, range_refusal, Entered}
+use Rattle.concessions.proofs.Lookup.{none, no_position, listed_there, listed_nowhere, entered_there, entered_behind, written}
 use Rattle.concessions.proofs.allowances.Allowances.set.Goals as goal
 
-pub returns-then-coordinator-ge64 : goal.returns-then-coordinator-ge64
+pub returns-then-pair-ge64-clause-answered : goal.returns-then-pair-ge64-clause-answered
 unfolding ask range_refusal
-returns-then-coordinator-ge64 c = search rules
+returns-then-pair-ge64-clause-answered c = search rules
 
-pub returns-then-place-eq-MOST_LISTED : goal.returns-then-place-eq-MOST_LISTED
-returns-then-place-eq-MOST_LISTED c =
-    let s = c.args.self.now in
-    record {
-      answered = ap acceptance (sym (refused c.args.coordinator c.args.resource c.args.allowance s.places s.count c.place_of-place.result s.few s.whole c.place_of-place.ensures c.if-coordinator-ge64.false c.if-allowance-gt-MOST_ALLOWANCE.false c.if-place-eq-MOST_LISTED.true));
-      table = refl;
-    }
-
-pub offset_bounds-self-place : goal.offset_bounds-self-place
-offset_bounds-self-place c =
-    let s = c.args.self.now in
-    let low = at_low c.args.coordinator c.args.resource c.args.allowance s.places s.count c.place_of-place.result s.few s.whole c.place_of-place.ensures in
+pub returns-in-None-clause-answered : goal.returns-in-None-clause-answered
+unfolding ask range_refusal
+returns-in-None-clause-answered c =
+    let coordinator = c.args.pair.coordinator in
+    let resource = c.args.pair.resource in
+    let listed = c.args.self.now.entries.items in
+    let nowhere = listed_nowhere coordinator resource c.args.allowance listed (no_position (lists coordinator resource) listed none (sym c.place_of.ensures ∙ c.in-None.is)) in
     search rules
 
-pub bounds-self-place : goal.bounds-self-place
-bounds-self-place c =
-    let s = c.args.self.now in
-    let low = at_low c.args.coordinator c.args.resource c.args.allowance s.places s.count c.place_of-place.result s.few s.whole c.place_of-place.ensures in
-    let not_full = c.if-place-eq-MOST_LISTED.false in
-    omega arith
+pub returns-in-Some-clause-answered : goal.returns-in-Some-clause-answered
+unfolding ask range_refusal
+returns-in-Some-clause-answered c =
+    let coordinator = c.args.pair.coordinator in
+    let resource = c.args.pair.resource in
+    let listed = c.args.self.now.entries.items in
+    let at = position-Some (lists coordinator resource) listed c.in-Some.place none (sym c.place_of.ensures ∙ c.in-Some.is) in
+    let there = listed_there coordinator resource c.args.allowance listed c.in-Some.place at.0 at.1 in
+    search rules
 
-pub returns-then-place-self : goal.returns-then-place-self
-returns-then-place-self c =
-    let s = c.args.self.now in
-    let at = c.place_of-place.result in
-    let low = at_low c.args.coordinator c.args.resource c.args.allowance s.places s.count at s.few s.whole c.place_of-place.ensures in
-    let not_full = c.if-place-eq-MOST_LISTED.false in
-    record {
-      answered = ap acceptance (sym (accepted c.args.coordinator c.args.resource c.args.allowance s.places s.count at s.few s.whole c.place_of-place.ensures c.if-coordinator-ge64.false c.if-allowance-gt-MOST_ALLOWANCE.false (omega arith)));
-      table = entered_behind c.args.coordinator c.args.resource c.args.allowance s.places s.count at s.few s.whole c.place_of-place.ensures c.if-place-self.true (omega arith);
-    }
+pub returns-in-Some-clause-table : goal.returns-in-Some-clause-table
+returns-in-Some-clause-table c =
+    let coordinator = c.args.pair.coordinator in
+    let resource = c.args.pair.resource in
+    let entries = c.args.self.now.entries in
+    let at = position-Some (lists coordinator resource) entries.items c.in-Some.place none (sym c.place_of.ensures ∙ c.in-Some.is) in
+    subst (Entered coordinator resource c.args.allowance entries.items)
+    (sym (written entries _ c.in-Some.place _ c.deref_mut.ensures.value))
+    (entered_there coordinator resource c.args.allowance entries.items c.in-Some.place at.0 at.1 at.2)
 
-pub returns-else-place-self : goal.returns-else-place-self
-returns-else-place-self c =
-    let s = c.args.self.now in
-    let at = c.place_of-place.result in
-    let low = at_low c.args.coordinator c.args.resource c.args.allowance s.places s.count at s.few s.whole c.place_of-place.ensures in
-    let not_full = c.if-place-eq-MOST_LISTED.false in
-    let other = c.if-place-self.false in
-    record {
-      answered = ap acceptance (sym (accepted c.args.coordinator c.args.resource c.args.allowance s.places s.count at s.few s.whole c.place_of-place.ensures c.if-coordinator-ge64.false c.if-allowance-gt-MOST_ALLOWANCE.false (omega arith)));
-      table = entered_in_place c.args.coordinator c.args.resource c.args.allowance s.places s.count at s.few s.whole c.place_of-place.ensures (omega arith);
-    }
+pub returns-in-None-2-clause-answered : goal.returns-in-None-2-clause-answered
+unfolding ask range_refusal
+returns-in-None-2-clause-answered c = search rules
+
+pub returns-in-None-2-clause-table : goal.returns-in-None-2-clause-table
+returns-in-None-2-clause-table c =
+    let coordinator = c.args.pair.coordinator in
+    let resource = c.args.pair.resource in
+    let listed = c.args.self.now.entries.items in
+    subst (Entered coordinator resource c.args.allowance listed)
+    (sym c.push.ensures.items)
+    (entered_behind coordinator resource c.args.allowance listed (no_position (lists coordinator resource) listed none (sym c.place_of.ensures ∙ c.in-None-2.is)))

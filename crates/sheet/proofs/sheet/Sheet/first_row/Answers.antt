@@ -1,16 +1,13 @@
-use Rattle.std.proofs.Common.{sym, ap, ◌∙◌, arith}
-use Rattle.sheet.specs.Rows.{before_pair}
-use Rattle.sheet.proofs.Search.{before_more, behind_more}
+use Rattle.std.proofs.Common.{rules}
+use Rattle.std.proofs.lemmas.List.Sorted.{IsPartitionPoint-from_clause}
+use Rattle.sheet.proofs.Search.{bytes_before, keys_parted, first_by_keys}
 use Rattle.sheet.proofs.sheet.Sheet.first_row.Goals as goal
 
-pub loop-low-preserved-then-is_before : goal.loop-low-preserved-then-is_before
-loop-low-preserved-then-is_before c =
+pub returns-clause-place : goal.returns-clause-place
+returns-clause-place c =
     let s = c.args.self.now in
-    let before = sym (ap (before_pair c.args.coordinator c.args.resource) c.row.ensures.value) ∙ sym c.if-is_before.ensures in
-    (omega arith, omega arith, before_more s.bytes.now s.accepted c.args.coordinator c.args.resource _ (omega arith) before, c.loop-low.invariant.3)
-
-pub loop-low-preserved : goal.loop-low-preserved
-loop-low-preserved c =
-    let s = c.args.self.now in
-    let behind = sym (ap (before_pair c.args.coordinator c.args.resource) c.row.ensures.value) ∙ sym c.if-is_before.ensures in
-    (omega arith, omega arith, c.loop-low.invariant.2, behind_more s.bytes.now s.accepted c.args.coordinator c.args.resource _ behind)
+    let long = rw c.table.ensures at c.keys.ensures.long in
+    let each = rw c.table.ensures at c.keys.ensures.each in
+    let parted = keys_parted s.bytes.now s.accepted c.args.pair.coordinator c.args.pair.resource c.keys.result.now long each in
+    let point = IsPartitionPoint-from_clause (bytes_before c.args.pair.coordinator c.args.pair.resource) _ _ c.partition_point.ensures.partitioned parted (λ a r q k. search rules) in
+    first_by_keys s.bytes.now s.accepted c.args.pair.coordinator c.args.pair.resource c.keys.result.now long each _ point

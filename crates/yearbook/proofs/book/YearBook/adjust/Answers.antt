@@ -1,27 +1,21 @@
-use Rattle.std.proofs.Common.{◌≡◌, length, sym, refl, arith, rules}
+use Rattle.std.proofs.Common.{sym}
 use Rattle.std.proofs.lemmas.Int.{to_z-of_z}
+use Rattle.std.proofs.lemmas.Result.{err_from_is_err_and}
 use Rattle.yearbook.proofs.Moves.{adjust_12, adjust_13, adjust_last}
 use Rattle.yearbook.proofs.book.YearBook.adjust.Goals as goal
 
-pub returns-then-coordinator-self : goal.returns-then-coordinator-self
-returns-then-coordinator-self c =
-    let s = c.args.self.now in
-    let wide : length s.demands ≡ 64 = search rules in
-    record { taken = adjust_12 s wide c.args.coordinator c.args.amount (omega arith); unaltered = refl }
+pub returns-in_err-coordinator-clause-taken : goal.returns-in_err-coordinator-clause-taken
+returns-in_err-coordinator-clause-taken c =
+    let p = err_from_is_err_and c.from_residual.result c.from_residual.ensures.1 in
+    let m = c.in_err-coordinator.ensures.missing in
+    rw (p.1, p.2, m.0) (adjust_12 c.args.self.now c.args.coordinator c.args.amount m.1)
 
-pub returns-then-not-inside : goal.returns-then-not-inside
-returns-then-not-inside c =
-    let s = c.args.self.now in
-    let wide : length s.demands ≡ 64 = search rules in
+pub returns-then-not-inside-clause-taken : goal.returns-then-not-inside-clause-taken
+returns-then-not-inside-clause-taken c =
     let f = c.ranges.amount in
-    record { taken = adjust_13 s wide c.args.coordinator c.args.amount (omega arith) (sym (simp to_z-of_z at c.if-not-inside.ensures)); unaltered = refl }
+    adjust_13 c.args.self.now c.args.coordinator c.args.amount c.in_ok-coordinator.ensures.here.0 (sym (simp to_z-of_z at c.if-not-inside.ensures))
 
-pub move_market-requires : goal.move_market-requires
-move_market-requires c = let f = c.ranges.amount in record { here = omega arith; small = simp to_z-of_z (sym (simp to_z-of_z at c.if-not-inside.ensures)) }
-
-pub returns : goal.returns
-returns c =
-    let s = c.args.self.now in
-    let wide : length s.demands ≡ 64 = search rules in
+pub returns-clause-taken : goal.returns-clause-taken
+returns-clause-taken c =
     let f = c.ranges.amount in
-    record { taken = adjust_last s wide c.args.coordinator c.args.amount (omega arith) (sym (simp to_z-of_z at c.if-not-inside.ensures)) _ _ (simp to_z-of_z at c.move_market.ensures.answered) (simp to_z-of_z at c.move_market.ensures.left); unaltered = c.move_market.ensures.unaltered }
+    adjust_last c.args.self.now c.args.coordinator c.args.amount c.in_ok-coordinator.ensures.here.0 (sym (simp to_z-of_z at c.if-not-inside.ensures)) _ _ (simp to_z-of_z at c.move_market.ensures.answered) (simp to_z-of_z at c.move_market.ensures.left)

@@ -1,103 +1,99 @@
-use Rattle.std.proofs.Common.{◌≡◌, ◌+◌, ◌*◌, true, false, length, get_or, take, sym, ap, ◌∙◌, subst, arith, rules}
+use Rattle.std.proofs.Common.{◌≡◌, ℕ, List, length, get_or, pos, ◌+ℤ◌, sym, ap, ◌∙◌, ap₂, arith}
 use Rattle.std.proofs.lemmas.Result.{err_from_is_err_and}
-use Rattle.charges.specs.Rules.{lines, meaning}
+use Rattle.std.proofs.lemmas.List.FromFn.{length-map-range_with_len}
+use Rattle.charges.specs.Rules.{line_of, lines, meaning}
+use Rattle.questions.specs.Questions.{in_turn}
 use Rattle.questions.proofs.Asked.{ok_answer, err_answer}
 use Rattle.sheet.specs.Rows.{rows}
-use Rattle.year.specs.Market.{coordinators_refusal}
-use Rattle.yearbook.proofs.Sides.{front}
-use Rattle.yearbook.proofs.Posting.{post_8, post_sheet, post_9, post_10, post_11, table_room}
+use Rattle.year.specs.Market.{balance_refusal, coordinators_refusal}
+use Rattle.yearbook.specs.declared.coordinator.Coordinator.{Coordinator}
+use Rattle.yearbook.specs.Coordinators.{nobody}
+use Rattle.yearbook.specs.View.{posted_in}
+use Rattle.yearbook.proofs.Posting.{post_8, post_sheet, post_9, post_10, post_11}
 use Rattle.yearbook.proofs.Views.{count_is}
 use Rattle.yearbook.proofs.book.YearBook.check_post.Goals as goal
 
 pub returns-then-not-rate_and_day : goal.returns-then-not-rate_and_day
 returns-then-not-rate_and_day g c =
     let s = c.args.self.now in
-    let wide : length s.demands ≡ 64 = search rules in
     let m = meaning (g.R.ChargeRule.code c.args.rule.now) (g.R.ChargeRule.quantity c.args.rule.now) in
-    post_8 s wide m c.args.day c.args.rate c.args.bytes.now (sym c.if-not-rate_and_day.ensures)
+    post_8 s m c.args.day c.args.rate c.args.bytes.now (sym c.if-not-rate_and_day.ensures)
 
-pub returns-in_err-check : goal.returns-in_err-check
-returns-in_err-check g c =
+pub returns-in_err-sheet : goal.returns-in_err-sheet
+returns-in_err-sheet g c =
     let s = c.args.self.now in
-    let wide : length s.demands ≡ 64 = search rules in
     let m = meaning (g.R.ChargeRule.code c.args.rule.now) (g.R.ChargeRule.quantity c.args.rule.now) in
     let p = err_from_is_err_and c.from_residual.result c.from_residual.ensures.1 in
-    rw (p.1, p.2) (post_sheet s wide m c.args.day c.args.rate c.args.bytes.now (sym c.if-not-rate_and_day.ensures) _ (err_answer _ _ _ c.in_err-check.ensures.answered))
+    rw (p.1, p.2) (post_sheet s m c.args.day c.args.rate c.args.bytes.now (sym c.if-not-rate_and_day.ensures) _ c.in_err-sheet.ensures)
 
 pub returns-in_err-check_coordinators : goal.returns-in_err-check_coordinators
 returns-in_err-check_coordinators g c =
     let s = c.args.self.now in
-    let wide : length s.demands ≡ 64 = search rules in
     let m = meaning (g.R.ChargeRule.code c.args.rule.now) (g.R.ChargeRule.quantity c.args.rule.now) in
     let d = c.args.day in
     let r = c.args.rate in
     let sh = c.args.bytes.now in
     let ok = sym c.if-not-rate_and_day.ensures in
-    let clean = ok_answer _ _ _ c.in_ok-check.ensures.answered in
+    let clean = c.in_ok-sheet.ensures.0 in
     let p = err_from_is_err_and c.from_residual-in_err-check_coordinators.result c.from_residual-in_err-check_coordinators.ensures.1 in
-    rw (p.1, p.2) (post_9 s wide m d r sh ok clean _ (ap (coordinators_refusal s.count) (sym c.accepted-sheet.ensures) ∙ err_answer _ tt _ c.in_err-check_coordinators.ensures))
+    rw (p.1, p.2) (post_9 s m d r sh ok clean _ (ap₂ coordinators_refusal (sym c.len-count.ensures.value) (sym c.in_ok-sheet.ensures.1) ∙ err_answer _ tt _ c.in_err-check_coordinators.ensures))
 
 pub returns-then-self-from : goal.returns-then-self-from
 returns-then-self-from g c =
     let s = c.args.self.now in
-    let wide : length s.demands ≡ 64 = search rules in
     let m = meaning (g.R.ChargeRule.code c.args.rule.now) (g.R.ChargeRule.quantity c.args.rule.now) in
     let d = c.args.day in
     let r = c.args.rate in
     let sh = c.args.bytes.now in
     let ok = sym c.if-not-rate_and_day.ensures in
-    let clean = ok_answer _ _ _ c.in_ok-check.ensures.answered in
-    let known = ap (coordinators_refusal s.count) (sym c.accepted-sheet.ensures) ∙ ok_answer _ tt tt c.in_ok-check_coordinators.ensures in
-    let low = g.met.R.ChargeRule.code_low c.args.rule.now in
-    let mark : c.from.result * 16 + c.from-2.result ≡ d * 16 + m.code = omega arith in
-    post_10 s wide m d r sh ok clean known low (subst (λ i. get_or s.posted i false ≡ true) mark c.if-self-from.true)
+    let clean = c.in_ok-sheet.ensures.0 in
+    let known = ap₂ coordinators_refusal (sym c.len-count.ensures.value) (sym c.in_ok-sheet.ensures.1) ∙ ok_answer _ tt tt c.in_ok-check_coordinators.ensures in
+    let on : c.from.result ≡ d = omega arith in
+    let by : c.from-2.result ≡ m.code = omega arith in
+    post_10 s m d r sh ok clean known (ap₂ (λ (day code : ℕ). posted_in s.posted code day) (sym on) (sym by) ∙ c.if-self-from.true)
 
-pub check_balances-requires : goal.check_balances-requires
-check_balances-requires g c =
-    let s = c.args.self.now in
-    let wide : length s.demands ≡ 64 = search rules in
-    let room = table_room s c.lines_of-lines.result c.lines_of-lines.ensures.long c.lines_of-lines.ensures.low in
-    record { few = room.0; low = room.1; small = room.2 }
+pub check_balances-requires-clause-few : goal.check_balances-requires-clause-few
+check_balances-requires-clause-few g c =
+    let m = meaning (g.R.ChargeRule.code c.args.rule.now) (g.R.ChargeRule.quantity c.args.rule.now) in
+    ap length c.of-lines.ensures ∙ length-map-range_with_len (line_of m c.args.rate _) 0 c.len-count.result ∙ c.len-count.ensures.value ∙ sym (ap length c.deref.ensures.0)
 
 pub returns-in_err-check_balances : goal.returns-in_err-check_balances
 returns-in_err-check_balances g c =
     let s = c.args.self.now in
-    let wide : length s.demands ≡ 64 = search rules in
     let m = meaning (g.R.ChargeRule.code c.args.rule.now) (g.R.ChargeRule.quantity c.args.rule.now) in
     let d = c.args.day in
     let r = c.args.rate in
     let sh = c.args.bytes.now in
     let ok = sym c.if-not-rate_and_day.ensures in
-    let clean = ok_answer _ _ _ c.in_ok-check.ensures.answered in
-    let known = ap (coordinators_refusal s.count) (sym c.accepted-sheet.ensures) ∙ ok_answer _ tt tt c.in_ok-check_coordinators.ensures in
-    let low = g.met.R.ChargeRule.code_low c.args.rule.now in
-    let mark : c.from.result * 16 + c.from-2.result ≡ d * 16 + m.code = omega arith in
-    let unposted = subst (λ i. get_or s.posted i false ≡ false) mark c.if-self-from.false in
-    let lines_are = front s.count c.lines_of-lines.result ∙ c.lines_of-lines.ensures.value ∙ ap (λ bs. lines s.count m r (rows bs)) c.accepted-sheet.ensures in
-    let asked = post_11 s wide m d r sh ok clean known low unposted _ lines_are in
+    let clean = c.in_ok-sheet.ensures.0 in
+    let known = ap₂ coordinators_refusal (sym c.len-count.ensures.value) (sym c.in_ok-sheet.ensures.1) ∙ ok_answer _ tt tt c.in_ok-check_coordinators.ensures in
+    let on : c.from.result ≡ d = omega arith in
+    let by : c.from-2.result ≡ m.code = omega arith in
+    let unposted = ap₂ (λ (day code : ℕ). posted_in s.posted code day) (sym on) (sym by) ∙ c.if-self-from.false in
+    let lines_are = c.of-lines.ensures ∙ ap₂ (λ (n : ℕ) (bs : List ℕ). lines n m r (rows bs)) c.len-count.ensures.value c.in_ok-sheet.ensures.1 in
+    let balanced = ap (λ (cs : List Coordinator). in_turn (length cs) (λ k. balance_refusal k ((get_or cs k nobody).market +ℤ pos (get_or c.of-lines.result.cents.items k 0)))) (sym c.deref.ensures.0) in
+    let asked = post_11 s m d r sh ok clean known unposted _ lines_are in
     let p = err_from_is_err_and c.from_residual-in_err-check_balances.result c.from_residual-in_err-check_balances.ensures.1 in
-    rw (p.1, p.2) (asked ∙ err_answer _ tt _ c.in_err-check_balances.ensures)
+    rw (p.1, p.2) (asked ∙ balanced ∙ err_answer _ tt _ c.in_err-check_balances.ensures)
 
 pub returns : goal.returns
 returns g c =
     let s = c.args.self.now in
-    let wide : length s.demands ≡ 64 = search rules in
     let m = meaning (g.R.ChargeRule.code c.args.rule.now) (g.R.ChargeRule.quantity c.args.rule.now) in
     let d = c.args.day in
     let r = c.args.rate in
     let sh = c.args.bytes.now in
     let ok = sym c.if-not-rate_and_day.ensures in
-    let clean = ok_answer _ _ _ c.in_ok-check.ensures.answered in
-    let known = ap (coordinators_refusal s.count) (sym c.accepted-sheet.ensures) ∙ ok_answer _ tt tt c.in_ok-check_coordinators.ensures in
-    let low = g.met.R.ChargeRule.code_low c.args.rule.now in
-    let mark : c.from.result * 16 + c.from-2.result ≡ d * 16 + m.code = omega arith in
-    let unposted = subst (λ i. get_or s.posted i false ≡ false) mark c.if-self-from.false in
-    let lines_are = front s.count c.lines_of-lines.result ∙ c.lines_of-lines.ensures.value ∙ ap (λ bs. lines s.count m r (rows bs)) c.accepted-sheet.ensures in
-    let asked = post_11 s wide m d r sh ok clean known low unposted _ lines_are in
-    let n = count_is s wide in
+    let clean = c.in_ok-sheet.ensures.0 in
+    let known = ap₂ coordinators_refusal (sym c.len-count.ensures.value) (sym c.in_ok-sheet.ensures.1) ∙ ok_answer _ tt tt c.in_ok-check_coordinators.ensures in
+    let on : c.from.result ≡ d = omega arith in
+    let by : c.from-2.result ≡ m.code = omega arith in
+    let unposted = ap₂ (λ (day code : ℕ). posted_in s.posted code day) (sym on) (sym by) ∙ c.if-self-from.false in
+    let lines_are = c.of-lines.ensures ∙ ap₂ (λ (n : ℕ) (bs : List ℕ). lines n m r (rows bs)) c.len-count.ensures.value c.in_ok-sheet.ensures.1 in
+    let balanced = ap (λ (cs : List Coordinator). in_turn (length cs) (λ k. balance_refusal k ((get_or cs k nobody).market +ℤ pos (get_or c.of-lines.result.cents.items k 0)))) (sym c.deref.ensures.0) in
+    let asked = post_11 s m d r sh ok clean known unposted _ lines_are in
+    let n = count_is s in
     record {
-      accepted = asked ∙ ok_answer _ tt tt c.in_ok-check_balances.ensures;
-      long = c.lines_of-lines.ensures.long;
-      low = λ k w. c.lines_of-lines.ensures.low k (omega arith);
-      lines_are = ap (λ k. take k c.lines_of-lines.result) n ∙ sym (front s.count c.lines_of-lines.result) ∙ lines_are ∙ ap (λ k. lines k m r (rows sh)) (sym n);
+      accepted = asked ∙ balanced ∙ ok_answer _ tt tt c.in_ok-check_balances.ensures;
+      lines_are = lines_are ∙ ap (λ k. lines k m r (rows sh)) (sym n);
     }

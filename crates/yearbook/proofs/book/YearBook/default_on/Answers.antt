@@ -1,90 +1,83 @@
-use Rattle.std.proofs.Common.{◌≡◌, length, sym, refl, ap, ◌∙◌, arith, rules}
-use Rattle.std.proofs.lemmas.Bool.{and_parts, leb-true}
+use Rattle.std.proofs.Common.{◌≡◌, ℕ, ◌+◌, ◌≤◌, ◌-◌, List, length, sym, ap, ◌∙◌, arith}
+use Rattle.std.proofs.lemmas.Result.{err_from_is_err_and}
 use Rattle.charges.specs.Sums.{total}
-use Rattle.year.specs.Rc.{spreadable}
 use Rattle.year.specs.Spread.{spread}
-use Rattle.yearbook.proofs.Sides.{front_of}
-use Rattle.yearbook.proofs.RcCalls.{weights_are, weights_light, weights_long, default_12, default_13, default_14, default_17, default_done, default_keeps, default_room}
+use Rattle.year.specs.Terms.{Terms}
+use Rattle.year.specs.Rc.{carrier_weights}
+use Rattle.yearbook.specs.declared.coordinator.Coordinator.{Coordinator}
+use Rattle.yearbook.specs.Coordinators.{rc_of, demand_of, demands, rc_at, rc_raised, each_with}
+use Rattle.yearbook.proofs.Raised.{length_raise}
+use Rattle.yearbook.proofs.Columns.{wrote, through}
+use Rattle.yearbook.proofs.RcCalls.{default_refused, default_17, default_done, default_keeps, others_demand, weights_light, paid_owed, paid_terms}
 use Rattle.yearbook.proofs.book.YearBook.default_on.Goals as goal
 
-pub returns-then-debtor-n : goal.returns-then-debtor-n
-returns-then-debtor-n c =
-    let s = c.args.self.now in
-    let wide : length s.demands ≡ 64 = search rules in
-    record { taken = default_12 s wide c.args.debtor c.args.unpaid (omega arith); unaltered = refl }
+pub returns-in_err-owing-clause-taken : goal.returns-in_err-owing-clause-taken
+returns-in_err-owing-clause-taken c =
+    let p = err_from_is_err_and c.from_residual.result c.from_residual.ensures.1 in
+    rw (p.1, p.2) (default_refused c.args.self.now c.args.debtor c.args.unpaid _ c.in_err-owing.ensures.asked)
 
-pub returns-then-not-between : goal.returns-then-not-between
-returns-then-not-between c =
-    let s = c.args.self.now in
-    let wide : length s.demands ≡ 64 = search rules in
-    record { taken = default_13 s wide c.args.debtor c.args.unpaid (omega arith) (sym c.if-not-between.ensures); unaltered = refl }
+-- the others' demand, as the code forms it
+less : (all d w result owed : ℕ) → w + d ≡ all → result ≡ all → owed ≡ d → (owed ≤ result) × (result - owed ≡ w)
+less all d w result owed e r f = (omega arith, omega arith)
 
-pub returns-then-unpaid-self : goal.returns-then-unpaid-self
-returns-then-unpaid-self c =
+pub overflow_sub-demand_of_others : goal.overflow_sub-demand_of_others
+overflow_sub-demand_of_others c =
+    let o = c.in_ok-owing.ensures.owes in
     let s = c.args.self.now in
-    let wide : length s.demands ≡ 64 = search rules in
-    record { taken = default_14 s wide c.args.debtor c.args.unpaid (omega arith) (sym c.if-not-between.ensures) (omega arith); unaltered = refl }
+    (less (total (demands s.coordinators.items)) _ _ _ _ (others_demand s c.args.debtor c.args.unpaid o.0)
+    (c.total_demand.ensures ∙ ap (λ (xs : List Coordinator). total (demands xs)) c.deref.ensures.0) (c.from.ensures ∙ ap demand_of o.1)).0
 
-pub can_spread-requires : goal.can_spread-requires
-can_spread-requires c =
+pub returns-then-demand_of_others-eq0-clause-taken : goal.returns-then-demand_of_others-eq0-clause-taken
+returns-then-demand_of_others-eq0-clause-taken c =
+    let o = c.in_ok-owing.ensures.owes in
     let s = c.args.self.now in
-    let wide : length s.demands ≡ 64 = search rules in
-    let e = ap total (weights_are s wide c.args.debtor c.args.unpaid) in
-    let l = weights_light s wide c.args.debtor c.args.unpaid in
-    omega arith
+    let e = ap rc_of o.1 in
+    let w = less (total (demands s.coordinators.items)) _ _ _ _ (others_demand s c.args.debtor c.args.unpaid o.0)
+    (c.total_demand.ensures ∙ ap (λ (xs : List Coordinator). total (demands xs)) c.deref.ensures.0) (c.from.ensures ∙ ap demand_of o.1) in
+    default_17 s c.args.debtor c.args.unpaid o.0 o.2 o.3 (omega arith) (sym w.1 ∙ c.if-demand_of_others-eq0.true)
 
-pub returns-then-not-can_spread : goal.returns-then-not-can_spread
-returns-then-not-can_spread c =
+pub carry-requires : goal.carry-requires
+carry-requires c =
+    let o = c.in_ok-owing.ensures.owes in
     let s = c.args.self.now in
-    let wide : length s.demands ≡ 64 = search rules in
-    let e = weights_are s wide c.args.debtor c.args.unpaid in
-    record { taken = default_17 s wide c.args.debtor c.args.unpaid (omega arith) (sym c.if-not-between.ensures) (omega arith) (ap (spreadable c.args.unpaid) (sym e) ∙ sym c.if-not-can_spread.ensures); unaltered = refl }
-
-pub shares_of-shares-requires : goal.shares_of-shares-requires
-shares_of-shares-requires c =
-    let s = c.args.self.now in
-    let wide : length s.demands ≡ 64 = search rules in
-    let e = weights_are s wide c.args.debtor c.args.unpaid in
-    let l = weights_light s wide c.args.debtor c.args.unpaid in
-    let w = weights_long s wide c.args.debtor c.args.unpaid in
-    let f = s.few in
+    let k = c.args.debtor in
+    let a = c.args.unpaid in
+    let w = less (total (demands s.coordinators.items)) _ _ _ _ (others_demand s k a o.0)
+    (c.total_demand.ensures ∙ ap (λ (xs : List Coordinator). total (demands xs)) c.deref.ensures.0) (c.from.ensures ∙ ap demand_of o.1) in
+    let paid = c.deref_mut-2.ensures.value ∙ wrote (λ x. rc_at x (x.rc - a)) s.coordinators.items _ k c.deref_mut.ensures.value in
+    let light = weights_light s k a in
     record {
-      few = omega (arith, ap length e);
-      amount = leb-true c.args.unpaid 2000000000 (and_parts _ _ (sym c.if-not-between.ensures)).1;
-      demand = omega (arith, ap total e);
+      unpaid = o.3;
+      owed = paid_owed s k a o.0 _ paid 2000000000 (let d = s.owed in let l = s.limited in omega arith);
+      whole = w.1 ∙ ap (λ (ts : Terms). total (carrier_weights ts k)) (sym (paid_terms s k a o.0 _ paid));
+      light = omega (arith, w.1);
     }
-
-pub raise_rc-requires : goal.raise_rc-requires
-raise_rc-requires c =
-    let s = c.args.self.now in
-    let wide : length s.demands ≡ 64 = search rules in
-    let d = c.args.debtor in
-    let u = c.args.unpaid in
-    let e = weights_are s wide d u in
-    let carries = ap (spreadable u) (sym e) ∙ sym c.if-not-can_spread.ensures in
-    let given = front_of s.count _ c.shares_of-shares.result _ (ap length e ∙ weights_long s wide d u) c.shares_of-shares.ensures.value ∙ ap (spread u) e in
-    let r = default_room s wide d u (omega arith) (sym c.if-not-between.ensures) (omega arith) carries _ _ _ c.pay_rc.ensures given refl in
-    record { few = r.0; low = r.1; small = r.2 }
 
 pub invariant_of-self : goal.invariant_of-self
 invariant_of-self c =
+    let o = c.in_ok-owing.ensures.owes in
     let s = c.args.self.now in
-    let wide : length s.demands ≡ 64 = search rules in
-    let d = c.args.debtor in
-    let u = c.args.unpaid in
-    let e = weights_are s wide d u in
-    let carries = ap (spreadable u) (sym e) ∙ sym c.if-not-can_spread.ensures in
-    let given = front_of s.count _ c.shares_of-shares.result _ (ap length e ∙ weights_long s wide d u) c.shares_of-shares.ensures.value ∙ ap (spread u) e in
-    let r = default_keeps s wide d u (omega arith) (sym c.if-not-between.ensures) (omega arith) carries _ _ _ c.pay_rc.ensures given c.raise_rc.ensures in
-    record { whole = r.0; few = s.few; bounded = r.1; owed = r.2; limited = s.limited; light = s.light }
+    let k = c.args.debtor in
+    let a = c.args.unpaid in
+    let e = ap rc_of o.1 in
+    let w = less (total (demands s.coordinators.items)) _ _ _ _ (others_demand s k a o.0)
+    (c.total_demand.ensures ∙ ap (λ (xs : List Coordinator). total (demands xs)) c.deref.ensures.0) (c.from.ensures ∙ ap demand_of o.1) in
+    let paid = c.deref_mut-2.ensures.value ∙ wrote (λ x. rc_at x (x.rc - a)) s.coordinators.items _ k c.deref_mut.ensures.value in
+    let raised = through _ _ _ c.deref_mut-2.ensures.value (ap length c.carry.ensures ∙ length_raise rc_raised _ _) ∙ c.carry.ensures
+    ∙ ap (λ (ts : Terms). each_with rc_raised c.deref_mut-2.result.now (spread a (carrier_weights ts k))) (paid_terms s k a o.0 _ paid) in
+    let p = default_keeps s k a o.0 o.2 o.3 (omega arith) (omega (arith, w.1, c.if-demand_of_others-eq0.false)) _ _ paid raised in
+    record { few = p.few; bounded = p.bounded; owed = p.owed; limited = s.limited; light = p.light }
 
-pub returns : goal.returns
-returns c =
+pub returns-clause-taken : goal.returns-clause-taken
+returns-clause-taken c =
+    let o = c.in_ok-owing.ensures.owes in
     let s = c.args.self.now in
-    let wide : length s.demands ≡ 64 = search rules in
-    let d = c.args.debtor in
-    let u = c.args.unpaid in
-    let e = weights_are s wide d u in
-    let carries = ap (spreadable u) (sym e) ∙ sym c.if-not-can_spread.ensures in
-    let given = front_of s.count _ c.shares_of-shares.result _ (ap length e ∙ weights_long s wide d u) c.shares_of-shares.ensures.value ∙ ap (spread u) e in
-    record { taken = default_done s wide d u (omega arith) (sym c.if-not-between.ensures) (omega arith) carries _ _ _ c.pay_rc.ensures given c.raise_rc.ensures; unaltered = tt }
+    let k = c.args.debtor in
+    let a = c.args.unpaid in
+    let e = ap rc_of o.1 in
+    let w = less (total (demands s.coordinators.items)) _ _ _ _ (others_demand s k a o.0)
+    (c.total_demand.ensures ∙ ap (λ (xs : List Coordinator). total (demands xs)) c.deref.ensures.0) (c.from.ensures ∙ ap demand_of o.1) in
+    let paid = c.deref_mut-2.ensures.value ∙ wrote (λ x. rc_at x (x.rc - a)) s.coordinators.items _ k c.deref_mut.ensures.value in
+    let raised = through _ _ _ c.deref_mut-2.ensures.value (ap length c.carry.ensures ∙ length_raise rc_raised _ _) ∙ c.carry.ensures
+    ∙ ap (λ (ts : Terms). each_with rc_raised c.deref_mut-2.result.now (spread a (carrier_weights ts k))) (paid_terms s k a o.0 _ paid) in
+    default_done s k a o.0 o.2 o.3 (omega arith) (omega (arith, w.1, c.if-demand_of_others-eq0.false)) _ _ paid raised

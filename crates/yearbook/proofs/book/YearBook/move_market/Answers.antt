@@ -1,70 +1,71 @@
-use Rattle.std.proofs.Common.{◌≡◌, true, false, length, get_or, ℤ, ◌+ℤ◌, sym, refl, ap, arith, w64, SFits, rules}
+use Rattle.std.proofs.Common.{◌≡◌, ◌≤◌, nat_abs, true, false, List, get_or, set, ℤ, ◌+ℤ◌, sym, refl, ap, ◌∙◌, arith, w64, SFits, to_z, of_z, rules}
 use Rattle.std.proofs.lemmas.Int.{to_z-of_z}
 use Rattle.questions.specs.Questions.{acceptance}
 use Rattle.sheet.specs.Questions.{within}
-use Rattle.yearbook.specs.Accounts.{empty_account}
-use Rattle.yearbook.proofs.Sides.{within_out, sum_fits, rcs_moved, bounded_market, whole_after}
-use Rattle.yearbook.proofs.Moves.{refused_11, passed_11, moved_is}
+use Rattle.yearbook.specs.declared.coordinator.Coordinator.{Coordinator}
+use Rattle.yearbook.specs.Coordinators.{nobody, market_at}
+use Rattle.yearbook.proofs.Columns.{within_out, sum_fits, wrote}
+use Rattle.yearbook.proofs.Moves.{refused_11, passed_11, moved_is, moved_keeps}
 use Rattle.yearbook.proofs.Taken.{refused_leaves, accepted_leaves}
 use Rattle.yearbook.proofs.book.YearBook.move_market.Goals as goal
 
-pub overflow_add-self : goal.overflow_add-self
-overflow_add-self c =
+pub overflow_add-balance : goal.overflow_add-balance
+overflow_add-balance c =
     let f = c.ranges.amount in
-    let s = c.args.self.now in
-    let z : ℤ = (get_or s.accounts.table c.args.coordinator empty_account).market in
+    let k = c.args.coordinator in
+    let z : ℤ = (get_or c.deref.result.now k nobody).market in
     let fz : SFits w64 z = search rules in
-    let low = within_out _ z (s.bounded c.args.coordinator c.requires.here) in
+    let e : z ≡ (get_or c.args.self.now.coordinators.items k nobody).market = ap (λ (xs : List Coordinator). (get_or xs k nobody).market) c.deref.ensures.0 in
+    let low : nat_abs z ≤ 1000000000000000 = omega (arith, ap nat_abs e, within_out 1000000000000000 (get_or c.args.self.now.coordinators.items k nobody).market (c.args.self.now.bounded k c.requires.here)) in
     simp to_z-of_z (sum_fits z c.args.amount low (within_out _ c.args.amount c.requires.small))
 
 pub returns-then-not-inside : goal.returns-then-not-inside
 returns-then-not-inside c =
     let f = c.ranges.amount in
     let s = c.args.self.now in
-    let wide : length s.demands ≡ 64 = search rules in
-    let z : ℤ = (get_or s.accounts.table c.args.coordinator empty_account).market in
+    let k = c.args.coordinator in
+    let z : ℤ = (get_or c.deref.result.now k nobody).market in
     let fz : SFits w64 z = search rules in
-    let low = within_out _ z (s.bounded c.args.coordinator c.requires.here) in
-    let fs = sum_fits z c.args.amount low (within_out _ c.args.amount c.requires.small) in
+    let e : z ≡ (get_or s.coordinators.items k nobody).market = ap (λ (xs : List Coordinator). (get_or xs k nobody).market) c.deref.ensures.0 in
+    let fs = sum_fits z c.args.amount (let low : nat_abs z ≤ 1000000000000000 = omega (arith, ap nat_abs e, within_out 1000000000000000 (get_or s.coordinators.items k nobody).market (s.bounded k c.requires.here)) in low) (within_out _ c.args.amount c.requires.small) in
     let out : within 1000000000000000 (z +ℤ c.args.amount) ≡ false = sym (simp to_z-of_z at c.if-not-inside.ensures) in
-    let e = refused_11 s wide c.args.coordinator c.args.amount c.requires.here out in
-    record { answered = ap acceptance (sym e); left = refused_leaves _ tt _ _ _ (ap acceptance (sym e)); unaltered = refl }
-
-pub move_market-requires : goal.move_market-requires
-move_market-requires c =
-    let f = c.ranges.amount in
-    let s = c.args.self.now in
-    let z : ℤ = (get_or s.accounts.table c.args.coordinator empty_account).market in
-    let low = within_out _ z (s.bounded c.args.coordinator c.requires.here) in
-    let few = s.few in
-    record { here = omega (arith, c.requires.here); fits = simp to_z-of_z (sum_fits z c.args.amount low (within_out _ c.args.amount c.requires.small)) }
+    let r = refused_11 s k c.args.amount c.requires.here (ap (λ y. within 1000000000000000 (y +ℤ c.args.amount)) (sym e) ∙ out) in
+    record { answered = ap acceptance (sym r); left = refused_leaves _ tt _ _ _ (ap acceptance (sym r)); unaltered = refl }
 
 pub invariant_of-self : goal.invariant_of-self
 invariant_of-self c =
     let f = c.ranges.amount in
     let s = c.args.self.now in
-    let n = s.count in
-    let t = s.accounts.table in
-    let i = c.args.coordinator in
+    let k = c.args.coordinator in
+    let t = s.coordinators.items in
     let a = c.args.amount in
-    let z : ℤ = (get_or t i empty_account).market in
+    let z : ℤ = (get_or c.deref.result.now k nobody).market in
     let fz : SFits w64 z = search rules in
-    let low = within_out _ z (s.bounded i c.requires.here) in
-    let fs = sum_fits z a low (within_out _ a c.requires.small) in
+    let e : z ≡ (get_or t k nobody).market = ap (λ (xs : List Coordinator). (get_or xs k nobody).market) c.deref.ensures.0 in
+    let fs = sum_fits z a (let low : nat_abs z ≤ 1000000000000000 = omega (arith, ap nat_abs e, within_out 1000000000000000 (get_or s.coordinators.items k nobody).market (s.bounded k c.requires.here)) in low) (within_out _ a c.requires.small) in
     let u : within 1000000000000000 (z +ℤ a) ≡ true = sym (simp to_z-of_z at c.if-not-inside.ensures) in
-    let e = simp to_z-of_z at c.move_market.ensures in
-    record { whole = whole_after t _ i _ e s.whole; few = s.few; bounded = bounded_market n t _ i a e u s.bounded; owed = rcs_moved n t _ i a _ s.few s.whole c.requires.here e s.owed; limited = s.limited; light = s.light }
+    let m : ℤ = to_z w64 (of_z w64 (to_z w64 (of_z w64 z) +ℤ to_z w64 (of_z w64 a))) in
+    let m_is : m ≡ (get_or t k nobody).market +ℤ a = simp to_z-of_z (ap (λ y. y +ℤ a) e) in
+    let p = moved_keeps s k a c.requires.here (ap (λ y. within 1000000000000000 (y +ℤ a)) (sym e) ∙ u) _ (wrote (λ x. market_at x m) t _ k c.deref_mut.ensures.value ∙ ap (λ y. set t k (market_at (get_or t k nobody) y)) m_is) in
+    record { few = p.few; bounded = p.bounded; owed = p.owed; limited = s.limited; light = p.light }
 
 pub returns : goal.returns
 returns c =
     let f = c.ranges.amount in
     let s = c.args.self.now in
-    let wide : length s.demands ≡ 64 = search rules in
-    let z : ℤ = (get_or s.accounts.table c.args.coordinator empty_account).market in
+    let k = c.args.coordinator in
+    let t = s.coordinators.items in
+    let a = c.args.amount in
+    let z : ℤ = (get_or c.deref.result.now k nobody).market in
     let fz : SFits w64 z = search rules in
-    let low = within_out _ z (s.bounded c.args.coordinator c.requires.here) in
-    let fs = sum_fits z c.args.amount low (within_out _ c.args.amount c.requires.small) in
-    let u : within 1000000000000000 (z +ℤ c.args.amount) ≡ true = sym (simp to_z-of_z at c.if-not-inside.ensures) in
-    let e = simp to_z-of_z at c.move_market.ensures in
-    let ok = passed_11 s wide c.args.coordinator c.args.amount c.requires.here u in
-    record { answered = ap acceptance (sym ok); left = accepted_leaves _ _ _ _ ok (moved_is s wide c.args.coordinator c.args.amount c.requires.here _ e); unaltered = tt }
+    let e : z ≡ (get_or t k nobody).market = ap (λ (xs : List Coordinator). (get_or xs k nobody).market) c.deref.ensures.0 in
+    let fs = sum_fits z a (let low : nat_abs z ≤ 1000000000000000 = omega (arith, ap nat_abs e, within_out 1000000000000000 (get_or s.coordinators.items k nobody).market (s.bounded k c.requires.here)) in low) (within_out _ a c.requires.small) in
+    let u : within 1000000000000000 (z +ℤ a) ≡ true = sym (simp to_z-of_z at c.if-not-inside.ensures) in
+    let m : ℤ = to_z w64 (of_z w64 (to_z w64 (of_z w64 z) +ℤ to_z w64 (of_z w64 a))) in
+    let m_is : m ≡ (get_or t k nobody).market +ℤ a = simp to_z-of_z (ap (λ y. y +ℤ a) e) in
+    let ok = passed_11 s k a c.requires.here (ap (λ y. within 1000000000000000 (y +ℤ a)) (sym e) ∙ u) in
+    record {
+      answered = ap acceptance (sym ok);
+      left = accepted_leaves _ _ _ _ ok (moved_is s k a c.requires.here _ (wrote (λ x. market_at x m) t _ k c.deref_mut.ensures.value ∙ ap (λ y. set t k (market_at (get_or t k nobody) y)) m_is));
+      unaltered = tt;
+    }

@@ -1,61 +1,48 @@
-use Rattle.std.proofs.Common.{◌≡◌, ◌+◌, ◌*◌, true, length, set, refl, ap, ◌∙◌, arith, rules}
-use Rattle.std.proofs.lemmas.Result.{err_from_is_err_and}
+use Rattle.std.proofs.Common.{◌≡◌, ◌<◌, ℕ, List, [], true, length, get_or, set, sym, ap, ap₂, ◌∙◌, arith, rules}
 use Rattle.charges.specs.Rules.{meaning}
-use Rattle.yearbook.proofs.Posting.{day_low, front_room, front_total, sum_is, post_left, post_keeps}
-use Rattle.yearbook.proofs.Taken.{taken_refused, taken_telling}
+use Rattle.charges.specs.Sums.{total}
+use Rattle.yearbook.specs.Coordinators.{each_with, market_raised}
+use Rattle.yearbook.specs.declared.coordinator.Coordinator.{Coordinator}
+use Rattle.yearbook.proofs.Columns.{through}
+use Rattle.yearbook.proofs.Raised.{length_raise}
+use Rattle.yearbook.proofs.Posting.{day_low, cents_long, post_left, post_keeps}
+use Rattle.yearbook.proofs.Taken.{taken_telling}
 use Rattle.yearbook.proofs.book.YearBook.post.Goals as goal
 
-pub returns-in_err-lines : goal.returns-in_err-lines
-returns-in_err-lines g c =
-    let p = err_from_is_err_and c.from_residual.result c.from_residual.ensures.1 in
-    record { taken = rw (p.1, p.2) (taken_refused _ _ _ _ c.in_err-lines.ensures); unaltered = rw p.1 refl }
-
-pub raise_market-requires : goal.raise_market-requires
-raise_market-requires g c =
-    let s = c.args.self.now in
-    let wide : length s.demands ≡ 64 = search rules in
+pub add_to-requires-clause-few : goal.add_to-requires-clause-few
+add_to-requires-clause-few g c =
     let m = meaning (g.R.ChargeRule.code c.args.rule.now) (g.R.ChargeRule.quantity c.args.rule.now) in
-    let room = front_room s wide m c.args.day c.args.rate c.args.bytes.now _ c.in_ok-lines.ensures in
-    let few = room.0 in
-    let w = s.whole in
-    record { few = omega arith; low = room.1; small = room.2 }
+    cents_long c.args.self.now m c.args.day c.args.rate c.args.bytes.now _ c.in_ok-lines.ensures ∙ sym (ap length c.deref_mut.ensures.value)
 
 pub bounds-self-from : goal.bounds-self-from
 bounds-self-from g c =
-    let s = c.args.self.now in
-    let wide : length s.demands ≡ 64 = search rules in
     let m = meaning (g.R.ChargeRule.code c.args.rule.now) (g.R.ChargeRule.quantity c.args.rule.now) in
-    let d = day_low s wide m c.args.day c.args.rate c.args.bytes.now c.in_ok-lines.ensures.accepted in
-    let low = g.met.R.ChargeRule.code_low c.args.rule.now in
+    let d = day_low c.args.self.now m c.args.day c.args.rate c.args.bytes.now c.in_ok-lines.ensures.accepted in
     omega arith
 
 pub invariant_of-self : goal.invariant_of-self
 invariant_of-self g c =
     let s = c.args.self.now in
-    let wide : length s.demands ≡ 64 = search rules in
     let m = meaning (g.R.ChargeRule.code c.args.rule.now) (g.R.ChargeRule.quantity c.args.rule.now) in
-    let k = post_keeps s wide m c.args.day c.args.rate c.args.bytes.now _ c.in_ok-lines.ensures _ c.raise_market.ensures in
-    record { whole = k.0; few = s.few; bounded = k.1; owed = k.2; limited = s.limited; light = s.light }
+    let raised = through _ _ _ c.deref_mut.ensures.value (ap length c.add_to.ensures ∙ length_raise market_raised _ _) ∙ c.add_to.ensures
+    ∙ ap (λ (cs : List Coordinator). each_with market_raised cs c.in_ok-lines.lines.cents.items) c.deref_mut.ensures.value in
+    let k = post_keeps s m c.args.day c.args.rate c.args.bytes.now _ c.in_ok-lines.ensures _ raised in
+    record { few = k.few; bounded = k.bounded; owed = k.owed; limited = s.limited; light = k.light }
 
-pub sum_of-requires : goal.sum_of-requires
-sum_of-requires g c =
+pub returns-clause-taken : goal.returns-clause-taken
+returns-clause-taken g c =
     let s = c.args.self.now in
-    let wide : length s.demands ≡ 64 = search rules in
-    let m = meaning (g.R.ChargeRule.code c.args.rule.now) (g.R.ChargeRule.quantity c.args.rule.now) in
-    let l = front_total s wide m c.args.day c.args.rate c.args.bytes.now _ c.in_ok-lines.ensures in
-    omega arith
-
-pub returns : goal.returns
-returns g c =
-    let s = c.args.self.now in
-    let wide : length s.demands ≡ 64 = search rules in
     let m = meaning (g.R.ChargeRule.code c.args.rule.now) (g.R.ChargeRule.quantity c.args.rule.now) in
     let d = c.args.day in
-    let r = c.args.rate in
-    let sh = c.args.bytes.now in
     let billed = c.in_ok-lines.ensures in
+    let raised = through _ _ _ c.deref_mut.ensures.value (ap length c.add_to.ensures ∙ length_raise market_raised _ _) ∙ c.add_to.ensures
+    ∙ ap (λ (cs : List Coordinator). each_with market_raised cs c.in_ok-lines.lines.cents.items) c.deref_mut.ensures.value in
     let low = g.met.R.ChargeRule.code_low c.args.rule.now in
-    let mark : c.from.result * 16 + c.from-2.result ≡ d * 16 + m.code = omega arith in
-    let days = day_low s wide m d r sh billed.accepted in
-    let long : length s.posted ≡ 5872 = search rules in
-    record { taken = taken_telling _ _ _ c.sum_of.result _ billed.accepted (c.sum_of.ensures ∙ sum_is s wide m d r sh _ billed) (post_left s wide m d r sh _ billed _ c.raise_market.ensures _ low (omega arith) (ap (λ i. set s.posted i true) mark)); unaltered = tt }
+    let on : c.from.result ≡ d = omega arith in
+    let by : c.from-2.result ≡ m.code = omega arith in
+    let days = day_low s m d c.args.rate c.args.bytes.now billed.accepted in
+    let wide : length s.posted ≡ 367 = search rules in
+    let row = c.mark.ensures.sixteen in
+    let long : m.code < length (get_or s.posted d []) = omega (arith, ap (λ (day : ℕ). length (get_or s.posted day [])) on, row) in
+    taken_telling _ _ _ c.total.result _ billed.accepted (c.total.ensures ∙ ap total billed.lines_are)
+    (post_left s m d c.args.rate c.args.bytes.now _ billed _ raised _ (omega arith) long (ap (set s.posted c.from.result) c.mark.ensures.marked ∙ ap₂ (λ (day code : ℕ). set s.posted day (set (get_or s.posted day []) code true)) on by))

@@ -1,47 +1,51 @@
-use Rattle.std.proofs.Common.{◌+◌, ◌*◌, ◌≤◌, get_or, ℤ, ◌+ℤ◌, nat_abs, sym, ap, ◌∙◌, arith, w64, SFits, rules}
+use Rattle.std.proofs.Common.{◌≡◌, ◌+◌, ◌*◌, ◌<◌, ◌≤◌, List, length, get_or, take, ℤ, ◌+ℤ◌, nat_abs, sym, ap, ◌∙◌, arith, w64, SFits, rules}
 use Rattle.std.proofs.lemmas.Int.{to_z-of_z}
-use Rattle.yearbook.specs.Accounts.{empty_account}
-use Rattle.yearbook.proofs.Sides.{within_out, markets_more, rcs_more, rcs_front, sum_small, sum_small_fits}
+use Rattle.std.proofs.lemmas.List.{length-map}
+use Rattle.charges.specs.Sums.{total_z}
+use Rattle.year.proofs.Sums.{total_next, total_take_le}
+use Rattle.yearbook.specs.declared.coordinator.Coordinator.{Coordinator}
+use Rattle.yearbook.specs.Coordinators.{nobody, rc_of, markets, rcs}
+use Rattle.yearbook.proofs.Columns.{within_out, rcs_at, markets_more, sum_small, sum_small_fits}
 use Rattle.yearbook.proofs.book.YearBook.totals.Goals as goal
-
-pub overflow_add-market : goal.overflow_add-market
-overflow_add-market c =
-    let s = c.args.self.now in
-    let i = c.loop-i.i in
-    let z : ℤ = (get_or s.accounts.table i empty_account).market in
-    let fz : SFits w64 z = search rules in
-    let few = s.few in
-    let low = within_out _ z (s.bounded i c.loop-i-test.true) in
-    let mi = c.loop-i.market-is in
-    let v : nat_abs c.loop-i.market ≤ 1000000000000000 * i = rw mi at c.loop-i.invariant.1 in
-    simp (mi, to_z-of_z) (sum_small_fits (c.loop-i.market +ℤ z) (i + 1) (omega arith) (sum_small c.loop-i.market z i v low))
 
 pub overflow_add-rc : goal.overflow_add-rc
 overflow_add-rc c =
     let s = c.args.self.now in
-    let few = s.few in
-    let whole = s.whole in
-    let m = rcs_more s.accounts.table c.loop-i.i (omega arith) in
-    let f = rcs_front s.accounts.table (c.loop-i.i + 1) s.count (omega arith) in
+    let t = s.coordinators.items in
+    let i = c.loop-coordinator.coordinator-index in
+    let d = c.as_slice-coordinator-items.ensures.value in
+    let h : i < length t = omega (arith, ap length d) in
+    let e = ap (λ (xs : List Coordinator). (get_or xs i nobody).rc) d ∙ sym (rcs_at t i h) in
+    let l = length-map t rc_of in
+    let m = total_next (rcs t) i (omega arith) in
+    let f = total_take_le (i + 1) (rcs t) in
     let o = s.owed in
-    let l = s.limited in
-    let i = c.loop-i.invariant.2 in
+    let u = s.limited in
+    let r = c.loop-coordinator.invariant.rc_is in
     search rules
 
-pub loop-i-preserved : goal.loop-i-preserved
-loop-i-preserved c =
+pub loop-coordinator-preserved : goal.loop-coordinator-preserved
+loop-coordinator-preserved c =
     let s = c.args.self.now in
-    let i = c.loop-i.i in
-    let z : ℤ = (get_or s.accounts.table i empty_account).market in
+    let t = s.coordinators.items in
+    let i = c.loop-coordinator.coordinator-index in
+    let d = c.as_slice-coordinator-items.ensures.value in
+    let h : i < length t = omega (arith, ap length d) in
+    let z : ℤ = (get_or c.as_slice-coordinator-items.result.now i nobody).market in
     let fz : SFits w64 z = search rules in
+    let e : z ≡ (get_or t i nobody).market = ap (λ (xs : List Coordinator). (get_or xs i nobody).market) d in
     let few = s.few in
-    let whole = s.whole in
-    let low = within_out _ z (s.bounded i c.loop-i-test.true) in
-    let mi = c.loop-i.market-is in
-    let v : nat_abs c.loop-i.market ≤ 1000000000000000 * i = rw mi at c.loop-i.invariant.1 in
-    let b = sum_small c.loop-i.market z i v low in
-    let fs = sum_small_fits (c.loop-i.market +ℤ z) (i + 1) (omega arith) b in
-    let m = markets_more s.accounts.table i (omega arith) in
-    let r = rcs_more s.accounts.table i (omega arith) in
-    let k = c.loop-i.invariant.2 in
-    (simp (mi, to_z-of_z) (ap (λ y. y +ℤ z) (rw mi at c.loop-i.invariant.0) ∙ sym m), simp (mi, to_z-of_z) b, omega arith)
+    let low : nat_abs z ≤ 1000000000000000 = omega (arith, ap nat_abs e, within_out 1000000000000000 (get_or t i nobody).market (s.bounded i h)) in
+    let mi = c.loop-coordinator.market-is in
+    let v : nat_abs c.loop-coordinator.market ≤ 1000000000000000 * i = rw mi at c.loop-coordinator.invariant.market_low in
+    let b = sum_small c.loop-coordinator.market z i v low in
+    let fs = sum_small_fits (c.loop-coordinator.market +ℤ z) (i + 1) (omega arith) b in
+    let l = length-map t rc_of in
+    let r = total_next (rcs t) i (omega arith) in
+    let a = ap (λ (xs : List Coordinator). (get_or xs i nobody).rc) d ∙ sym (rcs_at t i h) in
+    let k = c.loop-coordinator.invariant.rc_is in
+    record {
+      market_is = simp (mi, to_z-of_z) (ap (λ y. y +ℤ z) (rw mi at c.loop-coordinator.invariant.market_is) ∙ ap (λ y. total_z (take i (markets t)) +ℤ y) e ∙ sym (markets_more t i h));
+      market_low = simp (mi, to_z-of_z) b;
+      rc_is = omega arith;
+    }

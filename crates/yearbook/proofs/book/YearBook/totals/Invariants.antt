@@ -1,7 +1,11 @@
-use Rattle.std.proofs.Common.{◌≡◌, ◌*◌, ◌≤◌, nat_abs}
+use Rattle.std.proofs.Common.{◌≡◌, ◌*◌, ◌≤◌, take, nat_abs}
 use Rattle.charges.specs.Sums.{total, total_z}
-use Rattle.yearbook.specs.Accounts.{markets, rcs}
+use Rattle.yearbook.specs.Coordinators.{markets, rcs}
 use Rattle.yearbook.proofs.book.YearBook.totals.Given as goal
 
-abbrev pub invariant-loop-i : goal.invariant-loop-i
-invariant-loop-i l = (l.market ≡ total_z (markets l.i l.self.accounts.table)) × (nat_abs l.market ≤ 1000000000000000 * l.i) × (l.rc ≡ total (rcs l.i l.self.accounts.table))
+abbrev pub invariant-loop-coordinator : goal.invariant-loop-coordinator
+invariant-loop-coordinator l = record {
+  market_is : l.market ≡ total_z (take l.coordinator-index (markets l.self.coordinators.items));
+  market_low : nat_abs l.market ≤ 1000000000000000 * l.coordinator-index;
+  rc_is : l.rc ≡ total (take l.coordinator-index (rcs l.self.coordinators.items));
+}
