@@ -95,8 +95,8 @@ impl Figures for DayBids {
     }
 }
 
-#[derive(Clone, Copy)]
-pub struct BidSegment {}
+#[derive(Clone, Copy, Default, PartialEq, Eq, Debug)]
+pub struct BidSegment;
 
 impl ChargeRule for BidSegment {
     ghost code = { λ x. 2 };

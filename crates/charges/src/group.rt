@@ -18,16 +18,16 @@ pub struct Group<F, K> {
     pub field: PhantomData<K>,
 }
 
-#[derive(Clone, Copy)]
-pub struct ByHour {}
+#[derive(Clone, Copy, Default, PartialEq, Eq, Debug)]
+pub struct ByHour;
 
-#[derive(Clone, Copy)]
-pub struct ByInterval {}
+#[derive(Clone, Copy, Default, PartialEq, Eq, Debug)]
+pub struct ByInterval;
 
-#[derive(Clone, Copy)]
-pub struct ByPart {}
+#[derive(Clone, Copy, Default, PartialEq, Eq, Debug)]
+pub struct ByPart;
 
-// A field of the key, and its least value.
+// A field of the key, and its least value. Each has an impl, since only code can name a field.
 pub trait Field {
     ghost of: { Row → ℕ };
 
@@ -75,6 +75,7 @@ impl Field for ByPart {
     }
 }
 
+// By hand, since the field at hand is its least value at first.
 impl<F: Figures, K: Field> Default for Group<F, K> {
     ghost is_default = { λ g. g ≡ (grouped K.Field.of K.Field.LEAST F.Figures.running).start };
 

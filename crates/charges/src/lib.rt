@@ -1,6 +1,4 @@
 // Charge rules: what a rule means, the walk over a pair's rows, the five charges, and what a rule bills a coordinator.
-// The charges share `total_of`. One impl for all five would need a law for what the figures arrive at, whose proof would
-// have to stand among the definitions.
 #![tactic(auto)]
 
 pub mod bid_segment;

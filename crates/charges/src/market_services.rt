@@ -110,8 +110,8 @@ impl Figures for HourEnergy {
     }
 }
 
-#[derive(Clone, Copy)]
-pub struct MarketServices {}
+#[derive(Clone, Copy, Default, PartialEq, Eq, Debug)]
+pub struct MarketServices;
 
 impl ChargeRule for MarketServices {
     ghost code = { λ x. 0 };

@@ -8,7 +8,8 @@ use crate::rule::ChargeRule;
 use sheet::pair::Pair;
 use sheet::sheet::Sheet;
 
-// The resources under which the coordinator has a row: an array, since nothing here is on the heap. Its rows stand together, since keys ascend.
+// The resources under which the coordinator has a row: an array, since nothing here is on the heap. Its rows stand
+// together, since keys ascend.
 fn resources_of(sheet: Sheet<'_>, coordinator: usize) -> [bool; 256]
     ensures long { length result ≡ 256 }
     ensures marks { (resource : ℕ) → resource < 256 → slice_index_or result resource false ≡ nat_lt 0 (length (pair_rows coordinator resource (sheet_rows sheet.entry))) }
@@ -27,7 +28,8 @@ fn resources_of(sheet: Sheet<'_>, coordinator: usize) -> [bool; 256]
     present
 }
 
-// A pair without rows has quantity zero under every rule, so only the others cost a walk.
+// A pair without rows has quantity zero under every rule, so only the others cost a walk. A function of its own, since a
+// proof loses what is known of the pair where two branches meet in a loop.
 fn quantity_if<R: ChargeRule>(present: bool, rule: &R, sheet: Sheet<'_>, pair: Pair) -> u64
     requires { present ≡ nat_lt 0 (length (pair_rows pair.coordinator pair.resource (sheet_rows sheet))) }
     ensures { result ≡ R.quantity rule.now pair.coordinator pair.resource (pair_rows pair.coordinator pair.resource (sheet_rows sheet.entry)) }
@@ -56,7 +58,7 @@ pub fn coordinator_quantity<R: ChargeRule>(rule: &R, sheet: Sheet<'_>, coordinat
     sum
 }
 
-// In cents, to the nearest cent, a half up.
+// In cents, to the nearest cent, a half up. Quantity and line are plain numbers: they are added up and answered as such.
 pub fn line_at(quantity: u64, rate: u32) -> u64
     requires few { quantity ≤ 819200000000 }
     requires cheap { rate ≤ 10000000 }

@@ -46,8 +46,8 @@ impl Figures for Meter {
 
 type Meters = Group<Group<Group<Meter, ByPart>, ByInterval>, ByHour>;
 
-#[derive(Clone, Copy)]
-pub struct SystemOperations {}
+#[derive(Clone, Copy, Default, PartialEq, Eq, Debug)]
+pub struct SystemOperations;
 
 impl ChargeRule for SystemOperations {
     ghost code = { λ x. 1 };

@@ -43,8 +43,8 @@ impl Figures for SupplyDemand {
     }
 }
 
-#[derive(Clone, Copy)]
-pub struct Tor {}
+#[derive(Clone, Copy, Default, PartialEq, Eq, Debug)]
+pub struct Tor;
 
 impl ChargeRule for Tor {
     ghost code = { λ x. 3 };

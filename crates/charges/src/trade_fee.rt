@@ -39,8 +39,8 @@ impl Figures for TradeSides {
     }
 }
 
-#[derive(Clone, Copy)]
-pub struct TradeFee {}
+#[derive(Clone, Copy, Default, PartialEq, Eq, Debug)]
+pub struct TradeFee;
 
 impl ChargeRule for TradeFee {
     ghost code = { λ x. 4 };

@@ -1,4 +1,5 @@
 // Concessions: exclusion, grandfathering and ramp-in, each a charge rule made over another; the rules as they are posted.
+// Three types and no generic one, since each has a table and a formula of its own.
 #![tactic(auto)]
 
 pub mod allowances;

@@ -27,7 +27,7 @@ pub type PostedSystemOperations = RampIn<Exclusion<Grandfathering<SystemOperatio
 pub fn posted_market_services() -> PostedMarketServices
     ensures { result.marks ≡ replicate 64 0 }
 {
-    Exclusion::new(MarketServices {})
+    Exclusion::new(MarketServices)
 }
 
 pub fn posted_system_operations() -> PostedSystemOperations
@@ -35,7 +35,7 @@ pub fn posted_system_operations() -> PostedSystemOperations
     ensures marks { result.below.marks ≡ replicate 64 0 }
     ensures allowances { listed result.below.below.allowances ≡ [] }
 {
-    RampIn::new(Exclusion::new(Grandfathering::new(SystemOperations {})))
+    RampIn::new(Exclusion::new(Grandfathering::new(SystemOperations)))
 }
 
 // ---- an entry of the table below
@@ -54,6 +54,8 @@ impl<R> RampIn<Exclusion<R>> {
 
 // ---- any posted rule
 
+// A closed set, so an enum that calls on each.
+#[derive(Drop)]
 pub enum PostedRule {
     MarketServices(PostedMarketServices),
     SystemOperations(PostedSystemOperations),

@@ -6,6 +6,7 @@ use std::alloc::Global;
 pub struct Row {
     pub resource: u8,
     pub part: u8,
+    // A byte, as the worked examples give it.
     pub kind: u8,
     pub quantity: i32,
 }

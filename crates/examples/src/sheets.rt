@@ -43,13 +43,18 @@ const EXAMPLES: [SheetExample; 2] = [
     },
 ];
 
-fn show_refusal(rt: &HostRuntime, example: SheetExample) -> anyhow::Result<()> {
-    let name = example.name;
-    let sheet = sheet_of(rt.alloc(), example.rows)?;
+// Checks the sheet that holds the rows.
+fn show_check(
+    rt: &HostRuntime,
+    name: &str,
+    rows: &[Row],
+    expected: Result<usize, SheetFault>,
+) -> anyhow::Result<()> {
+    let sheet = sheet_of(rt.alloc(), rows)?;
     let answer = check(sheet.as_slice());
-    let verdict = verdict(answer == Err(example.fault));
+    let verdict = verdict(answer == expected);
     match answer {
-        Ok(count) => println!(rt; "{name}: {count} rows: {verdict}")?,
+        Ok(rows) => println!(rt; "{name}: {rows} rows: {verdict}")?,
         Err(fault) => println!(rt; "{name}: refused {fault}: {verdict}")?,
     }
     Ok(())
@@ -70,27 +75,14 @@ fn many_rows(heap: Global, count: u16) -> anyhow::Result<Vec<Row>> {
     Ok(rows)
 }
 
-fn show_count(
-    rt: &HostRuntime,
-    count: u16,
-    expected: Result<usize, SheetFault>,
-) -> anyhow::Result<()> {
-    let rows = many_rows(rt.alloc(), count)?;
-    let sheet = sheet_of(rt.alloc(), rows.as_slice())?;
-    let answer = check(sheet.as_slice());
-    let verdict = verdict(answer == expected);
-    match answer {
-        Ok(rows) => println!(rt; "a sheet of {count} rows: {rows} rows: {verdict}")?,
-        Err(fault) => println!(rt; "a sheet of {count} rows: refused {fault}: {verdict}")?,
-    }
-    Ok(())
-}
-
 pub fn show(rt: &HostRuntime) -> anyhow::Result<()> {
-    show_count(rt, 2048, Ok(2048))?;
-    show_count(rt, 2049, Err(SheetFault::Count))?;
+    let rows = many_rows(rt.alloc(), 2048)?;
+    show_check(rt, "a sheet of 2048 rows", rows.as_slice(), Ok(2048))?;
+    let rows = many_rows(rt.alloc(), 2049)?;
+    let fault = Err(SheetFault::Count);
+    show_check(rt, "a sheet of 2049 rows", rows.as_slice(), fault)?;
     for example in EXAMPLES {
-        show_refusal(rt, example)?;
+        show_check(rt, example.name, example.rows, Err(example.fault))?;
     }
     Ok(())
 }

@@ -36,11 +36,16 @@ fn rc_balances(heap: Global, book: &YearBook, count: usize) -> anyhow::Result<Ve
 fn show_year(rt: &HostRuntime, example: &YearExample) -> anyhow::Result<()> {
     let name = example.name;
     let mut book = YearBook::new();
-    let mut answers = [Ok(Answer::Accepted); 4];
-    let _ = keep_year(&mut book, example.terms, example.entries, &mut answers);
+    let mut answers = vec![in rt.alloc(); Ok(Answer::Accepted); example.entries.len()]?;
+    let _ = keep_year(
+        &mut book,
+        example.terms,
+        example.entries,
+        answers.as_mut_slice(),
+    );
     let (market, _) = book.totals();
     let rc = rc_balances(rt.alloc(), &book, example.terms.demands.len())?;
-    let refusal = first_refusal(&answers);
+    let refusal = first_refusal(answers.as_slice());
     let kept = market == example.market && rc.as_slice() == example.rc;
     let verdict = verdict(kept && refusal == example.refusal);
     match refusal {

@@ -3,12 +3,9 @@
 
 use engine::charge::Charge;
 use engine::engine::Engine;
+use sheet::check::MOST_BYTES;
+use yearbook::bounds::LAST_DAY;
 use yearbook::terms::Terms;
-
-// The bytes of a sheet of 2,048 rows.
-const FULL_SHEET: usize = 20_482;
-
-const LAST_DAY: u16 = 366;
 
 // In the order of their codes.
 const CHARGES: [Charge; 5] = [
@@ -22,7 +19,7 @@ const CHARGES: [Charge; 5] = [
 // Posts a day's sheets, one for each charge; answers how many were accepted.
 fn post_day(engine: &mut Engine, day: u16, rate: u32, sheets: &[u8]) -> u64 {
     let mut accepted: u64 = 0;
-    for (charge, sheet) in CHARGES.iter().zip(sheets.chunks(FULL_SHEET)) {
+    for (charge, sheet) in CHARGES.iter().zip(sheets.chunks(MOST_BYTES)) {
         if engine.post(*charge, day, rate, sheet).is_ok() {
             accepted = accepted.saturating_add(1);
         }
@@ -40,7 +37,8 @@ fn write_balances(engine: &Engine, balances: &mut [i64]) {
 }
 
 // Posts full sheets, five to a day in the order of the codes, in a book of 64 coordinators. Writes the market balances
-// as far as there are places, and answers how many posts were accepted. Sheets behind the last day would be refused.
+// as far as there are places, and answers how many posts were accepted. Sheets behind the last day's are not posted: they
+// would be refused. Flat slices, since C hands over no others.
 #[unsafe(no_mangle)]
 pub extern "C" fn kiglawin_post_year(sheets: &[u8], rate: u32, balances: &mut [i64]) -> u64 {
     let mut engine = Engine::new();
@@ -49,7 +47,7 @@ pub extern "C" fn kiglawin_post_year(sheets: &[u8], rate: u32, balances: &mut [i
         demands: &[1; 64],
         flags: &[0; 64],
     });
-    for (day, sheets) in (1..=LAST_DAY).zip(sheets.chunks(CHARGES.len() * FULL_SHEET)) {
+    for (day, sheets) in (1..=LAST_DAY).zip(sheets.chunks(CHARGES.len() * MOST_BYTES)) {
         accepted = accepted.saturating_add(post_day(&mut engine, day, rate, sheets));
     }
     write_balances(&engine, balances);

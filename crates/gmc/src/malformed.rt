@@ -29,7 +29,7 @@ pub enum Malformed<'a> {
     NoMemory(#[from] AllocError),
 }
 
-// How a journal ends that had such a line.
+// What a journal with such a line ends with.
 #[derive(Debug, Drop, Error)]
 #[error("a line of the journal is malformed")]
 pub struct MalformedLine;

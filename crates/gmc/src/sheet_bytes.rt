@@ -3,13 +3,15 @@ ghost use Rattle.std.specs.Prelude.{◌≡◌, ◌<◌, IfSome};
 ghost use Rattle.gmc.specs.Hexadecimal.{byte_of, digit_of};
 
 use crate::malformed::Malformed;
+use sheet::check::MOST_BYTES;
 use std::alloc::Global;
 use std::fs::File;
 use std::io;
 use std::io::Read;
 
-// One byte more than the longest sheet: whatever is longer is refused all the same.
-const ENOUGH: u64 = 20_483;
+// One byte more than the longest sheet: whatever is longer is refused all the same. `as`, since no `From` leads from usize
+// to u64.
+const ENOUGH: u64 = MOST_BYTES as u64 + 1;
 
 fn digit(byte: u8) -> Option<u32>
     ensures value { result ≡ digit_of byte }

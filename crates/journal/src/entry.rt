@@ -29,7 +29,8 @@ pub enum Entry<'a, R> {
     },
 }
 
-// A post answers the sum of its lines, any other entry only that it was accepted.
+// A post answers the sum of its lines, any other entry only that it was accepted: no `Option`, whose `None` would read as
+// no answer.
 #[derive(Clone, Copy, PartialEq, Eq, Debug)]
 pub enum Answer {
     Posted(u64),

@@ -59,7 +59,8 @@ pub fn enter<R: ChargeRule>(book: &mut YearBook, entry: &Entry<'_, R>) -> Result
     call(book, entry)
 }
 
-// Takes the entries in turn, and writes what each is answered, as far as there are places for it.
+// Takes the entries in turn, and writes what each is answered, as far as there are places for it. The caller lends the
+// places, since nothing here is on the heap.
 pub fn enter_all<R: ChargeRule>(
     book: &mut YearBook,
     entries: &[Entry<'_, R>],

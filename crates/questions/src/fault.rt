@@ -15,6 +15,7 @@ pub trait Fault {
     fn layer(&self) -> Layer
         ensures { result ≡ (refusal self.now).layer };
 
+    // 0 where the question has no place, as every caller is told.
     fn place(&self) -> usize
         ensures { result ≡ (refusal self.now).place };
 

@@ -11,7 +11,10 @@ use crate::kind::Kind;
 use crate::row::{Key, Row};
 use crate::table::Table;
 
-const MOST_ROWS: usize = 2048;
+pub const MOST_ROWS: usize = 2048;
+
+// The longest sheet: the row count, and six and four bytes for each row.
+pub const MOST_BYTES: usize = 2 + 10 * MOST_ROWS;
 
 const MOST_KWH: u32 = 4_000_000;
 

@@ -22,6 +22,7 @@ pub enum SheetFault {
     Row(RowFault),
 }
 
+// By hand, since a `?` goes by what `from_gives` says.
 impl From<RowFault> for SheetFault {
     ghost from_gives = { λ x y. y ≡ Row x };
 

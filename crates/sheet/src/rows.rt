@@ -5,7 +5,7 @@ ghost use Rattle.sheet.specs.Left.{rows_left};
 use crate::row::Row;
 use crate::table::Table;
 
-// The rows from `next` on are left.
+// The rows from `next` on are left. A number and no range, so that what is left is one `drop`.
 #[derive(Clone, Copy)]
 pub struct Rows<'a> {
     pub(crate) table: Table<'a>,

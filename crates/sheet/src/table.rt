@@ -5,6 +5,7 @@ ghost use Rattle.sheet.specs.Rows.{key_at, quantity_at, row_at, row_count, rows}
 use crate::row::{Key, Row};
 use crate::rows::Rows;
 
+// An accepted `Sheet` has the same two fields and no table, so that clauses say `sheet.bytes`.
 #[derive(Clone, Copy)]
 pub struct Table<'a> {
     pub(crate) bytes: &'a [u8],

@@ -3,7 +3,8 @@ ghost use Rattle.std.specs.Prelude.{◌≡◌, ◌+◌, ◌-◌, ◌*◌, ◌^�
 ghost use Rattle.charges.specs.Sums.{total};
 ghost use Rattle.year.specs.Spread.{quotient, spread};
 
-// What demands of this sum carry of the amount; of no demand at all, nothing.
+// What demands of this sum carry of the amount; of no demand at all, nothing. No method of `Spreading`, whose fields do not
+// agree while a share is worked out.
 fn carried_by(amount: u64, sum: u64, whole: u64) -> u64
     requires amount { amount ≤ 2000000000 }
     requires sum { sum ≤ 3200000000 }

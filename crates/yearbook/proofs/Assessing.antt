@@ -1,6 +1,6 @@
 -- Spreading over the coordinators, and assessing.
-use Rattle.std.proofs.Common.{◌≡◌, ℕ, suc, ◌+◌, ◌-◌, ◌*◌, ◌<◌, ◌≤◌, Bool, true, false, cond, not, ◌&&◌, ◌||◌, eqb, leb, List, [], ◌∷◌, map, length, get_or, take, set, is_some, Some, None, count_by, sym, refl, ap, ◌∙◌, ap₂, inl, inr, arith}
-use Rattle.std.proofs.lemmas.Bool.{and_parts, leb-true, cases_lt, ne_eqb, eq-eqb, le-ltb, lt-ltb}
+use Rattle.std.proofs.Common.{◌≡◌, ℕ, suc, ◌+◌, ◌-◌, ◌*◌, ◌<◌, ◌≤◌, Bool, true, false, cond, not, ◌&&◌, eqb, leb, List, [], ◌∷◌, map, length, get_or, take, set, is_some, Some, None, count_by, sym, refl, ap, ◌∙◌, ap₂, inl, inr, arith}
+use Rattle.std.proofs.lemmas.Bool.{or_right, and_parts, leb-true, cases_lt, ne_eqb, eq-eqb, le-ltb, lt-ltb}
 use Rattle.std.proofs.lemmas.List.{length-map, get_or-map, get_or-set_same, get_or-set_other}
 use Rattle.std.proofs.lemmas.List.Sums.{sum_by-cons}
 use Rattle.charges.specs.Sums.{total}
@@ -19,8 +19,7 @@ use Rattle.yearbook.specs.declared.coordinator.Coordinator.{Coordinator}
 use Rattle.yearbook.specs.Coordinators.{nobody, demand_of, flag_of, market_of, rc_of, demands, flags, markets, rcs, terms_in, rc_raised, each_with}
 use Rattle.yearbook.specs.declared.book.YearBook.{YearBook}
 use Rattle.yearbook.specs.View.{view, book_of}
-use Rattle.yearbook.proofs.Columns.{Keeps, bounded_same}
-use Rattle.yearbook.proofs.Raised.{rcs_raised, map_raised, length_raise}
+use Rattle.yearbook.proofs.Raised.{rcs_raised, map_raised}
 use Rattle.yearbook.proofs.Views.{view_is}
 
 flag_is_one : (b : Bool) → eqb (cond b 1 0) 1 ≡ b
@@ -36,7 +35,7 @@ flagged_are (c ∷ t) =
     ∙ ap₂ (λ (b : Bool) (n : ℕ). cond b 1 0 + n) (sym (flag_is_one c.flagged)) (flagged_are t)
     ∙ sym (sum_by-cons (λ flag. cond (eqb flag 1) 1 0) (flag_of c) (map flag_of t))
 
-module _ (t : List Coordinator) (charge minimum : ℕ) where
+module _ (t : List Coordinator) (minimum : ℕ) where
   pub minimums_long : length (minimums (terms_in t) minimum) ≡ length t
   unfolding minimums
   minimums_long = length-map (flags t) _ ∙ length-map t flag_of
@@ -50,23 +49,25 @@ module _ (t : List Coordinator) (charge minimum : ℕ) where
       ∙ ap (λ (b : Bool). cond b minimum 0) (flag_is_one (get_or t k nobody).flagged)
 
   -- the amount of a coordinator, as the code adds it
-  pub assessment_at : (k : ℕ) → k < length t →
-      get_or (assessment (terms_in t) charge minimum) k 0 ≡ cond (get_or t k nobody).flagged minimum 0 + get_or (spread (rest (terms_in t) charge minimum) (demands t)) k 0
-  unfolding assessment
-  assessment_at k w =
-      get_or_plus (minimums (terms_in t) minimum) (spread (rest (terms_in t) charge minimum) (demands t)) k (minimums_long ∙ sym (length-map t demand_of) ∙ sym (length_spread _ (demands t)))
-      ∙ ap (λ n. n + get_or (spread (rest (terms_in t) charge minimum) (demands t)) k 0) (minimum_at k w)
+  pub charge_at : (left k : ℕ) → k < length t →
+      get_or (plus (minimums (terms_in t) minimum) (spread left (demands t))) k 0 ≡ cond (get_or t k nobody).flagged minimum 0 + get_or (spread left (demands t)) k 0
+  charge_at left k w =
+      get_or_plus (minimums (terms_in t) minimum) (spread left (demands t)) k (minimums_long ∙ sym (length-map t demand_of) ∙ sym (length_spread _ (demands t)))
+      ∙ ap (λ n. n + get_or (spread left (demands t)) k 0) (minimum_at k w)
 
-  pub assessment_long : length (assessment (terms_in t) charge minimum) ≡ length t
+  pub charge_long : (left : ℕ) → length (plus (minimums (terms_in t) minimum) (spread left (demands t))) ≡ length t
+  charge_long left = length_plus _ _ ∙ minimums_long
+
+  pub assessment_long : (charge : ℕ) → length (assessment (terms_in t) charge minimum) ≡ length t
   unfolding assessment
-  assessment_long = length_plus _ _ ∙ minimums_long
+  assessment_long charge = charge_long (rest (terms_in t) charge minimum)
 
   pub minimums_total : total (minimums (terms_in t) minimum) ≡ minimum * flagged (terms_in t)
   unfolding minimums flagged
   minimums_total = total_of_flags minimum (flags t)
 
-  pub minimum_low : minimum * flagged (terms_in t) ≤ charge → (k : ℕ) → k < length t → cond (get_or t k nobody).flagged minimum 0 ≤ charge
-  minimum_low enough k w = omega (arith, minimum_at k w, get_or_le_total (minimums (terms_in t) minimum) k, minimums_total)
+  pub minimum_low : (k : ℕ) → k < length t → cond (get_or t k nobody).flagged minimum 0 ≤ minimum * flagged (terms_in t)
+  minimum_low k w = omega (arith, minimum_at k w, get_or_le_total (minimums (terms_in t) minimum) k, minimums_total)
 
 -- ---- one step of an amount on its way
 
@@ -103,24 +104,20 @@ pub spread_no : (u : ℕ) (ws : List ℕ) → 0 < u → total ws ≡ 0 → sprea
 unfolding spreadable
 spread_no u ws h z = rw (ne_eqb u 0 (λ e. omega arith), le-ltb 0 (total ws) (omega arith)) refl
 
-or_right : (x : Bool) {y : Bool} → y ≡ true → (x || y) ≡ true
-or_right true h = refl
-or_right false h = h
-
 pub spread_nothing : (u : ℕ) (ws : List ℕ) → u ≡ 0 → spreadable u ws ≡ true
 unfolding spreadable
 spread_nothing u ws h = rw (eq-eqb u 0 h) refl
 
 pub spread_carried : (u : ℕ) (ws : List ℕ) → 0 < total ws → spreadable u ws ≡ true
 unfolding spreadable
-spread_carried u ws h = or_right (eqb u 0) (lt-ltb 0 (total ws) h)
+spread_carried u ws h = or_right (eqb u 0) _ (lt-ltb 0 (total ws) h)
 
 module _ (s : YearBook) (charge minimum : ℕ) where
   abbrev b : Book
   b = book_of s
 
   abbrev t : List Coordinator
-  t = s.coordinators.items
+  t = s.coordinators.list.items
 
   abbrev fits : Bool
   fits = leb charge 2000000000 && leb minimum 2000000000 && leb (minimum * flagged b.terms) charge
@@ -159,6 +156,11 @@ module _ (s : YearBook) (charge minimum : ℕ) where
     pub unowed : total (rcs t) ≡ 0
     unowed = let o = s.owed in let z : charge_of s.charge ≡ 0 = ap charge_of passed.unassessed in omega arith
 
+    -- the amounts as the code forms them
+    pub assessed : (left : ℕ) → left ≡ rest b.terms charge minimum → (t' : List Coordinator) → t' ≡ each_with rc_raised t (plus (minimums b.terms minimum) (spread left b.terms.demands)) → t' ≡ each_with rc_raised t (assessment b.terms charge minimum)
+    unfolding assessment
+    assessed left l t' e = e ∙ ap (λ x. each_with rc_raised t (plus (minimums b.terms minimum) (spread x b.terms.demands))) l
+
     module _ (t' : List Coordinator) (raised : t' ≡ each_with rc_raised t (assessment b.terms charge minimum)) where
       markets_are : markets t' ≡ markets t
       markets_are = ap markets raised ∙ map_raised market_of rc_raised (λ x y. refl) t (assessment b.terms charge minimum)
@@ -176,25 +178,18 @@ module _ (s : YearBook) (charge minimum : ℕ) where
       unfolding rc_effect
       assess_left = view_is t t' demands_are flags_are _ markets_are _ rcs_are s.posted _ refl (Some charge)
 
-      total_is : total (rcs t') ≡ charge
+      pub total_is : total (rcs t') ≡ charge
       unfolding assessment
       total_is =
           let lr = length-map t rc_of in
-          let la = assessment_long t charge minimum in
-          let lm = minimums_long t charge minimum in
+          let la = assessment_long t minimum charge in
+          let lm = minimums_long t minimum in
           let ls = length_spread (rest b.terms charge minimum) b.terms.demands in
           let ld = length-map t demand_of in
           let p = total_plus (rcs t) (assessment b.terms charge minimum) (lr ∙ sym la) in
           let q = total_plus (minimums b.terms minimum) (spread (rest b.terms charge minimum) b.terms.demands) (lm ∙ sym ld ∙ sym ls) in
-          let m = minimums_total t charge minimum in
+          let m = minimums_total t minimum in
           let w = (spread_law (rest b.terms charge minimum) b.terms.demands).whole passed.carriers in
           let z = unowed in
           let e = passed.enough in
           ap total rcs_are ∙ omega arith
-
-      pub assess_keeps : Keeps t' charge
-      assess_keeps =
-          let l : length t' ≡ length t = ap length raised ∙ length_raise rc_raised t (assessment b.terms charge minimum) in
-          let f = s.few in
-          let z = total_is in
-          record { few = omega arith; bounded = bounded_same t t' l markets_are s.bounded; owed = omega arith; light = rw demands_are s.light }

@@ -8,7 +8,7 @@ use Rattle.charges.specs.Sums.{total, total_z}
 use Rattle.sheet.specs.Questions.{within}
 use Rattle.year.proofs.Sums.{get_or_le_total}
 use Rattle.yearbook.specs.declared.coordinator.Coordinator.{Coordinator}
-use Rattle.yearbook.specs.Coordinators.{nobody, market_of, rc_of, demands, markets, rcs}
+use Rattle.yearbook.specs.Coordinators.{nobody, market_of, rc_of, markets, rcs}
 
 -- what a write through the slice of a vector leaves in it
 pub stored : {X : Type 0} (xs ws : List X) → length ws ≡ length xs → refill (length xs) xs ws ≡ ws
@@ -56,13 +56,6 @@ pub bounded_same : (t t' : List Coordinator) → length t' ≡ length t → mark
 bounded_same t t' l e h k w =
     let m : (get_or t' k nobody).market ≡ (get_or t k nobody).market = sym (markets_at t' k w) ∙ ap (λ xs. get_or xs k (pos 0)) e ∙ markets_at t k (omega arith) in
     rw m (h k (omega arith))
-
--- what the book's type keeps, under a charge
-pub record Keeps (t : List Coordinator) (charge : ℕ) : Type 0 where
-  pub few : length t ≤ 64
-  pub bounded : Bounded t
-  pub owed : total (rcs t) ≤ charge
-  pub light : total (demands t) ≤ 3200000000
 
 -- ---- sums over the coordinators
 

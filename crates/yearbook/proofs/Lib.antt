@@ -1,5 +1,6 @@
 pub mod Assessing
 pub mod Columns
+pub mod Kept
 pub mod Moves
 pub mod Opening
 pub mod Posting

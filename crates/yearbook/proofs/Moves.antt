@@ -1,6 +1,6 @@
 -- Adjustments and market payments.
 use Rattle.std.proofs.Common.{◌≡◌, ℕ, ◌^◌, ◌<◌, ◌≤◌, Bool, true, false, ◌&&◌, leb, List, length, get_or, set, ℤ, pos, ◌+ℤ◌, ◌-ℤ◌, neg_ℤ, nat_abs, Some, None, Err, Result, sym, refl, ap, ◌∙◌, arith, w64, SFits, to_z, of_z}
-use Rattle.std.proofs.lemmas.List.{length-set, map-set}
+use Rattle.std.proofs.lemmas.List.{map-set}
 use Rattle.std.proofs.Math.Seq.{map-set_same}
 use Rattle.std.proofs.lemmas.Int.{to_z-of_z, to_z_pos, ints}
 use Rattle.std.proofs.lemmas.Bool.{and_parts, leb-true, le-leb}
@@ -16,7 +16,6 @@ use Rattle.yearbook.specs.declared.book.YearBook.{YearBook}
 use Rattle.yearbook.specs.Coordinators.{nobody, demand_of, flag_of, market_of, rc_of, demands, flags, markets, rcs, market_at}
 use Rattle.yearbook.specs.Taken.{Done}
 use Rattle.yearbook.specs.View.{view, book_of, with_market}
-use Rattle.yearbook.proofs.Columns.{Keeps, bounded_set}
 use Rattle.yearbook.proofs.Taken.{taken_refused, taken_last}
 use Rattle.yearbook.proofs.Views.{book_with, view_is, in_count, past_count, market_is}
 
@@ -30,10 +29,16 @@ passed_at k z fits = ask_yes 11 k _ fits
 
 module _ (s : YearBook) (k : ℕ) where
   abbrev t : List Coordinator
-  t = s.coordinators.items
+  t = s.coordinators.list.items
 
   abbrev b : Book
   b = book_of s
+
+  pub moved_owed : (z : ℤ) (t' : List Coordinator) → t' ≡ set t k (market_at (get_or t k nobody) z) → total (rcs t') ≤ charge_of s.charge
+  moved_owed z t' e =
+      let r = ap total (ap rcs e ∙ map-set_same rc_of t k (market_at (get_or t k nobody) z) nobody refl) in
+      let o = s.owed in
+      omega arith
 
   module _ (a : ℤ) where
     pub refused_11 : k < length t → within 1000000000000000 ((get_or t k nobody).market +ℤ a) ≡ false → balance_refusal k (market_balance b.market k +ℤ a) ≡ Some (no_at 11 k)
@@ -48,16 +53,6 @@ module _ (s : YearBook) (k : ℕ) where
         view_is t t' (ap demands e ∙ map-set_same demand_of t k c nobody refl) (ap flags e ∙ map-set_same flag_of t k c nobody refl)
         _ (ap markets e ∙ map-set market_of t k c ∙ ap (λ z. set b.market.balances k (z +ℤ a)) (sym (market_is s k h)))
         _ (ap rcs e ∙ map-set_same rc_of t k c nobody refl) s.posted _ refl s.charge
-
-    pub moved_keeps : k < length t → within 1000000000000000 ((get_or t k nobody).market +ℤ a) ≡ true → (t' : List Coordinator) → t' ≡ set t k (market_at (get_or t k nobody) ((get_or t k nobody).market +ℤ a)) → Keeps t' (charge_of s.charge)
-    moved_keeps h fits t' e =
-        let c : Coordinator = market_at (get_or t k nobody) ((get_or t k nobody).market +ℤ a) in
-        record {
-          few = let l = ap length e ∙ length-set t k c in let f = s.few in omega arith;
-          bounded = rw e (bounded_set t k c fits s.bounded);
-          owed = let r = ap total (ap rcs e ∙ map-set_same rc_of t k c nobody refl) in let o = s.owed in omega arith;
-          light = let d = ap total (ap demands e ∙ map-set_same demand_of t k c nobody refl) in let l = s.light in omega arith;
-        }
 
     pub adjust_12 : length t ≤ k → Done b (of_market (adjust k a)) b (Err (no_at 12 0))
     unfolding adjust_refusal

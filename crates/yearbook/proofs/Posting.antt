@@ -1,29 +1,28 @@
 -- Posting and quoting.
 use Rattle.std.proofs.Common.{◌≡◌, ℕ, ◌<◌, ◌≤◌, Bool, true, false, ◌&&◌, eqb, ltb, leb, List, [], length, get_or, set, ℤ, pos, ◌+ℤ◌, Some, None, Option, sym, refl, ap, ◌∙◌, ap₂, inl, inr, arith}
 use mathlib.Core.Path.{fun_ext}
-use Rattle.std.proofs.lemmas.List.{length-map, get_or-set_same, get_or-set_other}
+use Rattle.std.proofs.lemmas.List.{get_or-set_same, get_or-set_other}
 use Rattle.std.proofs.lemmas.List.FromFn.{length-map-range_with_len, get_or-map-range_with_len}
 use Rattle.std.proofs.lemmas.Bool.{and_parts, leb-true, cases_eq, lt-ltb, le-ltb, lt-leb, le-leb, eq-eqb, ne_eqb, eqb-true}
 use Rattle.questions.specs.Questions.{Refusal, no_at, ask, in_turn}
 use Rattle.questions.proofs.Asked.{ask_yes, ask_no, ask_passed, first_none, first_refused, turn_same}
 use Rattle.sheet.specs.Rows.{row_count, row_at, rows}
-use Rattle.sheet.specs.Questions.{sheet_refusal}
+use Rattle.sheet.specs.Questions.{sheet_refusal, within}
+use Rattle.charges.specs.Sums.{total}
 use Rattle.charges.specs.Rules.{Meaning, line_of, lines}
 use Rattle.year.specs.Plus.{plus_z}
 use Rattle.year.specs.Terms.{count}
-use Rattle.year.specs.Market.{post, market_balance, coordinators_refusal, balance_refusal, lines_refusal, post_refusal, marked, market_effect}
+use Rattle.year.specs.Market.{post, coordinators_refusal, balance_refusal, lines_refusal, post_refusal, marked, market_effect}
 use Rattle.year.specs.Rc.{charge_of}
 use Rattle.year.specs.Reading.{quote_refusal}
 use Rattle.year.specs.Book.{Book, Call, of_market, refusal, effect}
-use Rattle.year.proofs.Sums.{get_or_plus_z}
 use Rattle.year.proofs.Passed.{post_passed}
 use Rattle.yearbook.specs.declared.coordinator.Coordinator.{Coordinator}
 use Rattle.yearbook.specs.declared.book.YearBook.{YearBook}
-use Rattle.yearbook.specs.Coordinators.{nobody, demand_of, flag_of, market_of, rc_of, demands, flags, markets, rcs, market_raised, each_with}
+use Rattle.yearbook.specs.Coordinators.{nobody, demand_of, flag_of, rc_of, demands, flags, markets, rcs, market_raised, each_with}
 use Rattle.yearbook.specs.Taken.{Billed}
 use Rattle.yearbook.specs.View.{posted_in, view, book_of}
-use Rattle.yearbook.proofs.Raised.{markets_raised, map_raised, length_raise}
-use Rattle.yearbook.proofs.Columns.{Keeps, Bounded, markets_at}
+use Rattle.yearbook.proofs.Raised.{markets_raised, map_raised}
 use Rattle.yearbook.proofs.Views.{view_is, count_is, in_count, past_count, market_is}
 
 -- question 9 of one row
@@ -67,10 +66,10 @@ module _ (s : YearBook) (m : Meaning) (day rate : ℕ) (sheet : List ℕ) where
   b = book_of s
 
   abbrev n : ℕ
-  n = length s.coordinators.items
+  n = length s.coordinators.list.items
 
   abbrev t : List Coordinator
-  t = s.coordinators.items
+  t = s.coordinators.list.items
 
   abbrev call : Call
   call = of_market (post m day rate sheet)
@@ -127,6 +126,14 @@ module _ (s : YearBook) (m : Meaning) (day rate : ℕ) (sheet : List ℕ) where
     pub cents_long : length cents ≡ n
     cents_long = ap length billed.lines_are ∙ length-map-range_with_len (line_of m rate (rows sheet)) 0 (count b.terms) ∙ count_is s
 
+    -- question 11, of the lines as they are added
+    pub balanced : (k : ℕ) → k < n → within 1000000000000000 ((get_or t k nobody).market +ℤ pos (get_or cents k 0)) ≡ true
+    balanced k w =
+        let c = count_is s in
+        ap₂ (λ (z : ℤ) (l : ℕ). within 1000000000000000 (z +ℤ pos l)) (sym (market_is s k w))
+        (ap (λ xs. get_or xs k 0) billed.lines_are ∙ get_or-map-range_with_len (line_of m rate (rows sheet)) 0 (count b.terms) k k 0 (omega arith) (omega arith))
+        ∙ post_passed (count b.terms) b.market m day rate sheet billed.accepted k (omega arith)
+
     module _ (t' : List Coordinator) (raised : t' ≡ each_with market_raised t cents) where
       markets_are : markets t' ≡ plus_z (markets t) (lines (count b.terms) m rate (rows sheet))
       markets_are = ap markets raised ∙ markets_raised t cents ∙ ap (plus_z (markets t)) billed.lines_are
@@ -145,21 +152,8 @@ module _ (s : YearBook) (m : Meaning) (day rate : ℕ) (sheet : List ℕ) where
       unfolding market_effect
       post_left days here low e = view_is t t' demands_are flags_are _ markets_are _ rcs_are days _ (ap posted_in e ∙ marked_is s.posted m.code day here low) s.charge
 
-      long' : length t' ≡ length t
-      long' = ap length raised ∙ length_raise market_raised t cents
-
-      bounded' : Bounded t'
-      bounded' k w =
-          let l = long' in
-          let c = count_is s in
-          let e : (get_or t' k nobody).market ≡ market_balance b.market k +ℤ pos (line_of m rate (rows sheet) k) =
-          sym (markets_at t' k w) ∙ ap (λ xs. get_or xs k (pos 0)) markets_are
-          ∙ get_or_plus_z (markets t) (lines (count b.terms) m rate (rows sheet)) k (length-map t market_of ∙ sym c ∙ sym (length-map-range_with_len (line_of m rate (rows sheet)) 0 (count b.terms)))
-          ∙ ap (λ l. market_balance b.market k +ℤ pos l) (get_or-map-range_with_len (line_of m rate (rows sheet)) 0 (count b.terms) k k 0 (omega arith) (omega arith)) in
-          rw e (post_passed (count b.terms) b.market m day rate sheet billed.accepted k (omega arith))
-
-      pub post_keeps : Keeps t' (charge_of s.charge)
-      post_keeps = record { few = let l = long' in let f = s.few in omega arith; bounded = bounded'; owed = rw rcs_are s.owed; light = rw demands_are s.light }
+      pub post_owed : total (rcs t') ≤ charge_of s.charge
+      post_owed = rw rcs_are s.owed
 
 module _ (s : YearBook) (rate : ℕ) (sheet : List ℕ) (k : ℕ) where
   abbrev quoted : Option Refusal
@@ -175,18 +169,18 @@ module _ (s : YearBook) (rate : ℕ) (sheet : List ℕ) (k : ℕ) where
     quote_sheet r e = ask_yes 8 0 _ (le-leb rate 10000000 ok) ∙ first_refused _ e
 
     module _ (accepted : sheet_refusal sheet ≡ None) where
-      asked_of : coordinators_refusal (count (book_of s).terms) sheet ≡ coordinators_refusal (length s.coordinators.items) sheet
+      asked_of : coordinators_refusal (count (book_of s).terms) sheet ≡ coordinators_refusal (length s.coordinators.list.items) sheet
       asked_of = ap (λ n. coordinators_refusal n sheet) (count_is s)
 
-      pub quote_9 : (r : Refusal) → coordinators_refusal (length s.coordinators.items) sheet ≡ Some r → quoted ≡ Some r
+      pub quote_9 : (r : Refusal) → coordinators_refusal (length s.coordinators.list.items) sheet ≡ Some r → quoted ≡ Some r
       unfolding quote_refusal
       quote_9 r e = ask_yes 8 0 _ (le-leb rate 10000000 ok) ∙ first_none _ accepted ∙ first_refused _ (asked_of ∙ e)
 
-      module _ (known : coordinators_refusal (length s.coordinators.items) sheet ≡ None) where
-        pub quote_12 : length s.coordinators.items ≤ k → quoted ≡ Some (no_at 12 0)
+      module _ (known : coordinators_refusal (length s.coordinators.list.items) sheet ≡ None) where
+        pub quote_12 : length s.coordinators.list.items ≤ k → quoted ≡ Some (no_at 12 0)
         unfolding quote_refusal
         quote_12 h = ask_yes 8 0 _ (le-leb rate 10000000 ok) ∙ first_none _ accepted ∙ first_none _ (asked_of ∙ known) ∙ ask_no 12 0 _ (past_count s k h)
 
-        pub quote_none : k < length s.coordinators.items → quoted ≡ None
+        pub quote_none : k < length s.coordinators.list.items → quoted ≡ None
         unfolding quote_refusal
         quote_none h = ask_yes 8 0 _ (le-leb rate 10000000 ok) ∙ first_none _ accepted ∙ first_none _ (asked_of ∙ known) ∙ ask_yes 12 0 _ (in_count s k h)

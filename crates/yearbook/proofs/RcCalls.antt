@@ -1,7 +1,7 @@
 -- RC payments and defaults.
-use Rattle.std.proofs.Common.{◌≡◌, ℕ, ◌+◌, ◌-◌, ◌<◌, ◌≤◌, Bool, true, false, ◌&&◌, ◌||◌, eqb, leb, ltb, List, length, get_or, set, Some, None, Ok, Err, Option, sym, refl, ap, ◌∙◌, ap₂, inl, inr, arith}
-use Rattle.std.proofs.lemmas.Bool.{lt-leb, le-leb, lt-ltb, le-ltb, ne_eqb, cases_lt}
-use Rattle.std.proofs.lemmas.List.{length-map, length-set, map-set, set_past, get_or-map, get_or-set_same, get_or_past}
+use Rattle.std.proofs.Common.{◌≡◌, ℕ, ◌+◌, ◌-◌, ◌<◌, ◌≤◌, Bool, true, false, ◌&&◌, eqb, leb, ltb, List, length, get_or, set, Some, None, Ok, Err, Option, sym, refl, ap, ◌∙◌, ap₂, inl, inr, arith}
+use Rattle.std.proofs.lemmas.Bool.{or_right, lt-leb, le-leb, lt-ltb, le-ltb, ne_eqb, cases_lt}
+use Rattle.std.proofs.lemmas.List.{length-map, length-set, map-set, get_or-map, get_or-set_same, get_or_past}
 use Rattle.std.proofs.Math.Seq.{map-set_same}
 use Rattle.questions.specs.Questions.{Refusal, no_at, ask}
 use Rattle.questions.proofs.Asked.{ask_yes, ask_no}
@@ -18,14 +18,10 @@ use Rattle.yearbook.specs.declared.book.YearBook.{YearBook}
 use Rattle.yearbook.specs.Coordinators.{nobody, demand_of, flag_of, market_of, rc_of, demands, flags, markets, rcs, terms_in, rc_at, rc_raised, each_with}
 use Rattle.yearbook.specs.Taken.{Done}
 use Rattle.yearbook.specs.View.{view, book_of}
-use Rattle.yearbook.proofs.Raised.{rcs_raised, map_raised, length_raise}
-use Rattle.yearbook.proofs.Columns.{Keeps, rcs_at, bounded_set, bounded_same}
+use Rattle.yearbook.proofs.Raised.{rcs_raised, map_raised}
+use Rattle.yearbook.proofs.Columns.{rcs_at}
 use Rattle.yearbook.proofs.Taken.{taken_refused, taken_accepted}
 use Rattle.yearbook.proofs.Views.{view_is, count_is, in_count, past_count, rc_is}
-
-or_right : (x : Bool) {y : Bool} → y ≡ true → (x || y) ≡ true
-or_right true h = refl
-or_right false h = h
 
 -- a question that refused is asked before those behind it
 refused_before : (p q u : Bool) (behind : Option Refusal) (r : Refusal) → ask p 12 0 (ask q 13 0 (ask u 14 0 None)) ≡ Some r → ask p 12 0 (ask q 13 0 (ask u 14 0 behind)) ≡ Some r
@@ -40,10 +36,10 @@ module _ (s : YearBook) (k a : ℕ) where
   b = book_of s
 
   abbrev n : ℕ
-  n = length s.coordinators.items
+  n = length s.coordinators.list.items
 
   abbrev t : List Coordinator
-  t = s.coordinators.items
+  t = s.coordinators.list.items
 
   -- the balance in the account and in the model
   covered : k < n → a ≤ (get_or t k nobody).rc → leb a (rc_balance b.rc k) ≡ true
@@ -91,12 +87,6 @@ module _ (s : YearBook) (k a : ℕ) where
   abbrev weights : List ℕ
   weights = carrier_weights b.terms k
 
-  out_weighs : (xs : List ℕ) → total (set xs k 0) ≤ total xs
-  out_weighs xs = elim (cases_lt k (length xs)) [
-    | inl w ↦ omega (arith, total_set xs k 0 w)
-    | inr w ↦ rw (set_past xs k 0 w) (omega arith)
-  ]
-
   -- the others' demand
   pub others_demand : k < n → total weights + (get_or t k nobody).demand ≡ total (demands t)
   others_demand h =
@@ -104,9 +94,6 @@ module _ (s : YearBook) (k a : ℕ) where
       let e = total_set (demands t) k 0 (omega arith) in
       let d = get_or-map demand_of t k nobody 0 h in
       omega arith
-
-  pub weights_light : total weights ≤ 3200000000
-  weights_light = omega (arith, out_weighs b.terms.demands, s.light)
 
   pub weights_long : length weights ≡ n
   weights_long = length-set b.terms.demands k 0 ∙ count_is s
@@ -148,22 +135,16 @@ module _ (s : YearBook) (k a : ℕ) where
       pub default_done : Done b (of_rc (default k a)) (view t₂ s.posted s.charge) (Ok tt)
       unfolding default_refusal rc_effect spreadable
       default_done = taken_accepted b (of_rc (default k a)) tt _
-          (owed 2000000000 _ h low high l ∙ ask_yes 17 0 _ (or_right (eqb a 0) (lt-ltb 0 (total weights) p)))
+          (owed 2000000000 _ h low high l ∙ ask_yes 17 0 _ (or_right (eqb a 0) _ (lt-ltb 0 (total weights) p)))
           (view_is t t₂ demands_are flags_are _ markets_are _ rcs_are s.posted _ refl s.charge)
 
-      long : length t₂ ≡ length t
-      long = ap length raised ∙ length_raise rc_raised t₁ (spread a weights) ∙ ap length paid ∙ length-set t k c
-
-      default_owed : total (rcs t₂) ≤ charge_of s.charge
+      pub default_owed : total (rcs t₂) ≤ charge_of s.charge
       default_owed =
           let lr = length-map t rc_of in
           let lw = weights_long in
           let o = rc_is s k h in
           let q = total_passed weights (rcs t) k a (omega arith) debtor_out (omega arith) (omega arith) p in
           rw (rcs_are, q) s.owed
-
-      pub default_keeps : Keeps t₂ (charge_of s.charge)
-      default_keeps = record { few = let e = long in let f = s.few in omega arith; bounded = bounded_same t t₂ long markets_are s.bounded; owed = default_owed; light = rw demands_are s.light }
 
   -- what is left to owe once the debtor's part is taken
   pub paid_owed : k < n → (t₁ : List Coordinator) → t₁ ≡ set t k (rc_at (get_or t k nobody) ((get_or t k nobody).rc - a)) → (m : ℕ) → total (rcs t) ≤ m → total (rcs t₁) ≤ m
@@ -172,17 +153,6 @@ module _ (s : YearBook) (k a : ℕ) where
       let r = rcs_at t k h in
       let z = total_set (rcs t) k ((get_or t k nobody).rc - a) (omega arith) in
       rw (e, map-set rc_of t k (rc_at (get_or t k nobody) ((get_or t k nobody).rc - a))) (omega arith)
-
-  pub paid_keeps : k < n → (t₁ : List Coordinator) → t₁ ≡ set t k (rc_at (get_or t k nobody) ((get_or t k nobody).rc - a)) → Keeps t₁ (charge_of s.charge)
-  paid_keeps h t₁ e =
-      let c : Coordinator = rc_at (get_or t k nobody) ((get_or t k nobody).rc - a) in
-      let f = s.few in
-      record {
-        few = let l = ap length e ∙ length-set t k c in omega arith;
-        bounded = rw e (bounded_set t k c (s.bounded k h) s.bounded);
-        owed = paid_owed h t₁ e (charge_of s.charge) s.owed;
-        light = let d = ap (λ x. total x) (ap demands e ∙ map-set_same demand_of t k c nobody refl) in let l = s.light in omega arith;
-      }
 
   pub paid_terms : k < n → (t₁ : List Coordinator) → t₁ ≡ set t k (rc_at (get_or t k nobody) ((get_or t k nobody).rc - a)) → terms_in t₁ ≡ terms_in t
   paid_terms h t₁ e =

@@ -49,25 +49,25 @@ unopened_is cs days none unmarked = let p = nothing_posted in rw (none, unmarked
 -- ---- one coordinator
 
 module _ (s : YearBook) where
-  pub count_is : count (book_of s).terms ≡ length s.coordinators.items
-  count_is = length-map s.coordinators.items demand_of
+  pub count_is : count (book_of s).terms ≡ length s.coordinators.list.items
+  count_is = length-map s.coordinators.list.items demand_of
 
-  pub in_count : (k : ℕ) → k < length s.coordinators.items → ltb k (count (book_of s).terms) ≡ true
+  pub in_count : (k : ℕ) → k < length s.coordinators.list.items → ltb k (count (book_of s).terms) ≡ true
   in_count k h = let e = count_is in lt-ltb k (count (book_of s).terms) (omega arith)
 
-  pub past_count : (k : ℕ) → length s.coordinators.items ≤ k → ltb k (count (book_of s).terms) ≡ false
+  pub past_count : (k : ℕ) → length s.coordinators.list.items ≤ k → ltb k (count (book_of s).terms) ≡ false
   past_count k h = let e = count_is in le-ltb k (count (book_of s).terms) (omega arith)
 
-  pub rc_is : (k : ℕ) → k < length s.coordinators.items → rc_balance (book_of s).rc k ≡ (get_or s.coordinators.items k nobody).rc
-  rc_is k h = rcs_at s.coordinators.items k h
+  pub rc_is : (k : ℕ) → k < length s.coordinators.list.items → rc_balance (book_of s).rc k ≡ (get_or s.coordinators.list.items k nobody).rc
+  rc_is k h = rcs_at s.coordinators.list.items k h
 
-  pub market_is : (k : ℕ) → k < length s.coordinators.items → market_balance (book_of s).market k ≡ (get_or s.coordinators.items k nobody).market
-  market_is k h = markets_at s.coordinators.items k h
+  pub market_is : (k : ℕ) → k < length s.coordinators.list.items → market_balance (book_of s).market k ≡ (get_or s.coordinators.list.items k nobody).market
+  market_is k h = markets_at s.coordinators.list.items k h
 
-  pub balances_12 : (k : ℕ) → length s.coordinators.items ≤ k → balances_refusal (book_of s) k ≡ Some (no_at 12 0)
+  pub balances_12 : (k : ℕ) → length s.coordinators.list.items ≤ k → balances_refusal (book_of s) k ≡ Some (no_at 12 0)
   unfolding balances_refusal
   balances_12 k h = ask_no 12 0 _ (past_count k h)
 
-  pub balances_none : (k : ℕ) → k < length s.coordinators.items → balances_refusal (book_of s) k ≡ None
+  pub balances_none : (k : ℕ) → k < length s.coordinators.list.items → balances_refusal (book_of s) k ≡ None
   unfolding balances_refusal
   balances_none k h = ask_yes 12 0 _ (in_count k h)

@@ -18,7 +18,7 @@ view coordinators posted charge = record {
 }
 
 abbrev pub book_of : YearBook → Book
-book_of book = view book.coordinators.items book.posted book.charge
+book_of book = view book.coordinators.list.items book.posted book.charge
 
 -- a book not yet opened has no coordinators
 abbrev pub unopened : Book

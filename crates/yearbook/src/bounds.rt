@@ -8,7 +8,7 @@ pub(crate) const MOST_DEMAND: u32 = 50_000_000;
 
 pub(crate) const MOST_RATE: u32 = 10_000_000;
 
-pub(crate) const LAST_DAY: u16 = 366;
+pub const LAST_DAY: u16 = 366;
 
 pub(crate) const MOST_AMOUNT: u64 = 1_000_000_000_000;
 

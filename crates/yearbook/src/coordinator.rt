@@ -1,5 +1,6 @@
-// The coordinators of a book.
-// What a coordinator is opened with, and both sides of its account, in cents.
+// One coordinator of a book.
+
+// What it is opened with, and both sides of its account, in cents.
 #[derive(Clone, Copy, Default)]
 pub struct Coordinator {
     pub demand: u32,

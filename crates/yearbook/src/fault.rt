@@ -26,6 +26,7 @@ pub enum BookFault {
     NoCarrier,
 }
 
+// By hand, since a `?` goes by what `from_gives` says.
 impl From<SheetFault> for BookFault {
     ghost from_gives = { λ x y. y ≡ Sheet x };
 

@@ -1,9 +1,10 @@
-// The year book: the accounts of the coordinators, and the calls that change and read them.
+// The year book: its coordinators, and the calls that change and read them.
 #![tactic(auto)]
 
 pub mod book;
-mod bounds;
+pub mod bounds;
 pub mod coordinator;
+pub mod coordinators;
 pub mod fault;
 mod lines;
 pub mod side;

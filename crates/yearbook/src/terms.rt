@@ -7,11 +7,12 @@ ghost use Rattle.yearbook.specs.Faults.{book_fault};
 
 use crate::bounds::{MOST_COORDINATORS, MOST_DEMAND};
 use crate::coordinator::Coordinator;
+use crate::coordinators::Coordinators;
 use crate::fault::BookFault;
 use arrayvec::ArrayVec;
 
-// The demand and the flag of each coordinator, in two lists of one length; flag 1 marks a transmission operator without
-// load.
+// The demand and the flag of each coordinator; flag 1 marks a transmission operator without load. Two lists, since
+// question 6 asks whether they are equally long.
 #[derive(Clone, Copy)]
 pub struct Terms<'a> {
     pub demands: &'a [u32],
@@ -46,21 +47,22 @@ pub(crate) fn check_terms(terms: Terms<'_>) -> Result<(), BookFault>
     Ok(())
 }
 
-// The coordinators that accepted terms name, with nothing on either side.
-pub(crate) fn coordinators_of(terms: Terms<'_>) -> ArrayVec<Coordinator, 64>
+// The coordinators that accepted terms name, with nothing on either side. A pass of its own, so that nothing is made of
+// terms that fail.
+pub(crate) fn coordinators_of(terms: Terms<'_>) -> Coordinators
     requires { open_refusal (terms_of terms.demands.now terms.flags.now) ≡ None }
-    ensures terms { terms_in result.items ≡ terms_of terms.entry.demands.now terms.entry.flags.now }
-    ensures markets { markets result.items ≡ replicate (length terms.entry.demands.now) (pos 0) }
-    ensures rcs { rcs result.items ≡ replicate (length terms.entry.demands.now) 0 }
+    ensures terms { terms_in result.list.items ≡ terms_of terms.entry.demands.now terms.entry.flags.now }
+    ensures markets { markets result.list.items ≡ replicate (length terms.entry.demands.now) (pos 0) }
+    ensures rcs { rcs result.list.items ≡ replicate (length terms.entry.demands.now) 0 }
 {
-    let mut coordinators = ArrayVec::new();
+    let mut list = ArrayVec::new();
     for (demand, flag) in terms.demands.iter().zip(terms.flags) {
-        coordinators.push(Coordinator {
+        list.push(Coordinator {
             demand: *demand,
             flagged: *flag == 1,
             market: 0,
             rc: 0,
         });
     }
-    coordinators
+    Coordinators { list }
 }

@@ -1,4 +1,5 @@
-// A new engine, opening its book, and taking entries.
+// A new engine, opening its book, and taking entries. Each passes a call on, so that the kept book is changed by these
+// alone.
 ghost use Rattle.std.specs.Prelude.{◌≡◌, [], ◌∷◌};
 ghost use Rattle.questions.specs.Questions.{acceptance, told};
 ghost use Rattle.year.specs.Terms.{open_refusal};

@@ -40,7 +40,7 @@ fn post<'a, R: ChargeRule>(
     book.enter(&entry)
 }
 
-// Each charge has a rule of another type, so that both calls match on it: no closure is generic in a rule.
+// Each charge has a rule of a type of its own, so both calls match on the charge: no closure is generic in a rule.
 impl Engine {
     // Posts a charge, under the year law.
     pub fn post(
@@ -59,13 +59,13 @@ impl Engine {
         match charge {
             Charge::MarketServices => post(book, &self.market_services, day, rate, sheet),
             Charge::SystemOperations => post(book, &self.system_operations, day, rate, sheet),
-            Charge::BidSegment => post(book, &BidSegment {}, day, rate, sheet),
-            Charge::Tor => post(book, &Tor {}, day, rate, sheet),
-            Charge::TradeFee => post(book, &TradeFee {}, day, rate, sheet),
+            Charge::BidSegment => post(book, &BidSegment, day, rate, sheet),
+            Charge::Tor => post(book, &Tor, day, rate, sheet),
+            Charge::TradeFee => post(book, &TradeFee, day, rate, sheet),
         }
     }
 
-    // A coordinator's charge quantity, together with its line.
+    // A coordinator's charge quantity, together with its line: a pair, as the rules have it.
     pub fn quote(
         &self,
         charge: Charge,
@@ -81,9 +81,9 @@ impl Engine {
             Charge::SystemOperations => {
                 book.quote(&self.system_operations, coordinator, rate, sheet)
             }
-            Charge::BidSegment => book.quote(&BidSegment {}, coordinator, rate, sheet),
-            Charge::Tor => book.quote(&Tor {}, coordinator, rate, sheet),
-            Charge::TradeFee => book.quote(&TradeFee {}, coordinator, rate, sheet),
+            Charge::BidSegment => book.quote(&BidSegment, coordinator, rate, sheet),
+            Charge::Tor => book.quote(&Tor, coordinator, rate, sheet),
+            Charge::TradeFee => book.quote(&TradeFee, coordinator, rate, sheet),
         }
     }
 }

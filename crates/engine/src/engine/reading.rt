@@ -10,7 +10,7 @@ use super::Engine;
 use yearbook::fault::BookFault;
 
 impl Engine {
-    // The market and the RC balance of one coordinator.
+    // The market and the RC balance of one coordinator: a pair, as the rules have it.
     pub fn balances(&self, coordinator: usize) -> Result<(i64, u64), BookFault>
         ensures answered { told book_fault result ≡ answer (balances_refusal (book_of self.now.kept.book) coordinator) (balances_of (book_of self.now.kept.book) coordinator) }
         ensures law { ∥ AnyYear (book_of self.now.kept.book) ∥₁ }
@@ -18,7 +18,7 @@ impl Engine {
         self.kept.book().balances(coordinator)
     }
 
-    // The sums of the market and of the RC balances.
+    // The sums of the market and of the RC balances, likewise.
     pub fn totals(&self) -> (i64, u64)
         ensures answered { result ≡ totals_of (book_of self.now.kept.book) }
         ensures law { ∥ AnyYear (book_of self.now.kept.book) ∥₁ }

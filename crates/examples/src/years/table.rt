@@ -191,7 +191,7 @@ pub const EXAMPLES: [YearExample; 13] = [
             flags: &[0, 0, 0],
         },
         entries: &[Entry::Post {
-            rule: &TradeFee {},
+            rule: &TradeFee,
             day: 366,
             rate: 5000,
             sheet: &TRADE,
@@ -207,7 +207,7 @@ pub const EXAMPLES: [YearExample; 13] = [
             flags: &[0, 0, 0],
         },
         entries: &[Entry::Post {
-            rule: &TradeFee {},
+            rule: &TradeFee,
             day: 367,
             rate: 5000,
             sheet: &TRADE,
@@ -224,13 +224,13 @@ pub const EXAMPLES: [YearExample; 13] = [
         },
         entries: &[
             Entry::Post {
-                rule: &TradeFee {},
+                rule: &TradeFee,
                 day: 1,
                 rate: 5000,
                 sheet: &TRADE,
             },
             Entry::Post {
-                rule: &TradeFee {},
+                rule: &TradeFee,
                 day: 1,
                 rate: 5000,
                 sheet: &TRADE,
@@ -248,7 +248,7 @@ pub const EXAMPLES: [YearExample; 13] = [
         },
         entries: &[
             Entry::Post {
-                rule: &TradeFee {},
+                rule: &TradeFee,
                 day: 1,
                 rate: 5000,
                 sheet: &TRADE,

@@ -1,4 +1,4 @@
-// Opening a year, taking entries, and reading its book.
+// Opening a year, taking entries, and reading its book. Each passes a call on, so that the book is changed by these alone.
 ghost use Rattle.std.specs.Prelude.{◌≡◌, [], ◌∷◌};
 ghost use Rattle.questions.specs.Questions.{acceptance, told};
 ghost use Rattle.year.specs.Terms.{open_refusal};

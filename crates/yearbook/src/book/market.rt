@@ -15,17 +15,17 @@ use crate::fault::BookFault;
 impl YearBook {
     // Moves a market balance if it stays within bounds.
     fn move_market(&mut self, coordinator: usize, amount: i64) -> Result<(), BookFault>
-        requires here { coordinator < length self.old.coordinators.items }
+        requires here { coordinator < length self.old.coordinators.list.items }
         requires small { within 1000000000000 amount ≡ true }
         ensures answered { told book_fault result ≡ acceptance (balance_refusal coordinator (market_balance (book_of self.old).market coordinator +ℤ amount)) }
         ensures left { book_of self.new ≡ settled (balance_refusal coordinator (market_balance (book_of self.old).market coordinator +ℤ amount)) (book_of self.old) (with_market (book_of self.old) coordinator amount) }
         ensures unaltered { Unaltered result self.old self.new }
     {
-        let balance = self.coordinators[coordinator].market + amount;
+        let balance = self.coordinators.list[coordinator].market + amount;
         if !inside(balance, MOST_BALANCE) {
             return Err(BookFault::MarketBalance(coordinator));
         }
-        self.coordinators[coordinator].market = balance;
+        self.coordinators.set_market(coordinator, balance);
         Ok(())
     }
 

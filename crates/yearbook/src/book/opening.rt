@@ -8,6 +8,7 @@ ghost use Rattle.yearbook.specs.Taken.{Unaltered};
 ghost use Rattle.yearbook.specs.View.{book_of, unopened};
 
 use super::YearBook;
+use crate::coordinators::Coordinators;
 use crate::fault::BookFault;
 use crate::terms::{Terms, check_terms, coordinators_of};
 use arrayvec::ArrayVec;
@@ -24,7 +25,9 @@ impl YearBook {
         ensures { book_of result ≡ unopened }
     {
         YearBook {
-            coordinators: ArrayVec::new(),
+            coordinators: Coordinators {
+                list: ArrayVec::new(),
+            },
             posted: nothing_posted(),
             charge: None,
         }

@@ -41,7 +41,7 @@ impl YearBook {
             return Err(BookFault::RateOrDay);
         }
         let sheet = Sheet::try_from(bytes)?;
-        let count = self.coordinators.len();
+        let count = self.coordinators.list.len();
         check_coordinators(sheet, count)?;
         if self.posted[usize::from(day)][usize::from(rule.tell_code())] {
             return Err(BookFault::Posted);
@@ -71,7 +71,7 @@ impl YearBook {
         Ok(lines.total())
     }
 
-    // The charge quantity of a coordinator, together with its line.
+    // The charge quantity of a coordinator, together with its line: a pair, as the rules have it.
     pub fn quote<R: ChargeRule>(
         &self,
         rule: &R,
@@ -85,7 +85,7 @@ impl YearBook {
             return Err(BookFault::RateOrDay);
         }
         let sheet = Sheet::try_from(bytes)?;
-        check_coordinators(sheet, self.coordinators.len())?;
+        check_coordinators(sheet, self.coordinators.list.len())?;
         self.coordinator(coordinator)?;
         let quantity = coordinator_quantity(rule, sheet, coordinator);
         Ok((quantity, line_at(quantity, rate)))

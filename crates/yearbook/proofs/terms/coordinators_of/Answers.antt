@@ -7,7 +7,7 @@ use Rattle.std.proofs.lemmas.Slice.Zip.{length-zip, get_or-zip}
 use Rattle.year.specs.Terms.{Terms, terms_of}
 use Rattle.year.proofs.Passed.{open_passed}
 use Rattle.yearbook.specs.Coordinators.{demands, flags, markets, rcs}
-use Rattle.yearbook.proofs.Opening.{taking_room, taking_more, taken_terms, taken_markets, taken_rcs}
+use Rattle.yearbook.proofs.Opening.{opened_few, opened_bounded, opened_light, taking_room, taking_more, taken_terms, taken_markets, taken_rcs}
 use Rattle.yearbook.proofs.terms.coordinators_of.Goals as goal
 
 -- the demand and the flag at a place, as the loop meets them
@@ -24,7 +24,7 @@ met t i demand flag h e =
     )
 
 pub loop-demand-init : goal.loop-demand-init
-loop-demand-init c = let e = c.new-coordinators.ensures in record { demands_are = ap demands e; flags_are = ap flags e; markets_are = ap markets e; rcs_are = ap rcs e }
+loop-demand-init c = let e = c.new-list.ensures in record { demands_are = ap demands e; flags_are = ap flags e; markets_are = ap markets e; rcs_are = ap rcs e }
 
 pub push-requires : goal.push-requires
 push-requires c =
@@ -42,7 +42,7 @@ loop-demand-preserved c =
     let road = YieldsList-from_zip {s = c.into_iter-demand-iterator.result} (YieldsList-from_slice t.demands (search rules)) (YieldsList-from_slice t.flags (search rules)) in
     let w = YieldsList-turn road c.loop-demand.yielded _ c.loop-demand.yielded_by c.next.result c.next.new.self _ c.in-Some.is c.next.ensures.steps in
     let m = met t i _ _ w.0 w.1 in
-    let a = ap₂ (λ (d f : ℕ). c.loop-demand.coordinators.items ++ record { demand = d; flagged = eqb f 1; market = pos 0; rc = 0 } ∷ []) m.1 m.2 in
+    let a = ap₂ (λ (d f : ℕ). c.loop-demand.list.items ++ record { demand = d; flagged = eqb f 1; market = pos 0; rc = 0 } ∷ []) m.1 m.2 in
     rw (length-append, c.push.ensures.items, a) (taking_more t c.requires _ i c.loop-demand.invariant m.0)
 
 pub returns : goal.returns
@@ -59,3 +59,17 @@ returns c =
       markets = taken_markets t c.requires _ _ i all;
       rcs = taken_rcs t c.requires _ _ i all;
     }
+
+pub invariant_of-result : goal.invariant_of-result
+invariant_of-result c =
+    let t : Terms = terms_of c.args.terms.demands.now c.args.terms.flags.now in
+    let road = YieldsList-from_zip {s = c.into_iter-demand-iterator.result} (YieldsList-from_slice t.demands (search rules)) (YieldsList-from_slice t.flags (search rules)) in
+    let w = YieldsList-end road c.loop-demand.yielded _ c.loop-demand.yielded_by c.next.result c.next.new.self c.in-None.is c.next.ensures.steps in
+    let z = length-zip t.demands t.flags in
+    let same = (open_passed t c.requires).flags_long in
+    let all : length c.loop-demand.yielded ≡ length t.demands = omega (arith, w.1) in
+    let i = c.loop-demand.invariant in
+    let e = taken_terms t c.requires _ _ i all in
+    let m = taken_markets t c.requires _ _ i all in
+    let r = taken_rcs t c.requires _ _ i all in
+    record { few = opened_few t c.requires _ e m r; bounded = opened_bounded t c.requires _ e m r; light = opened_light t c.requires _ e m r }

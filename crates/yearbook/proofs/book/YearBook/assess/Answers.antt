@@ -1,17 +1,15 @@
 use Rattle.std.proofs.Common.{refl}
 use Rattle.std.proofs.lemmas.Result.{err_from_is_err_and}
-use Rattle.questions.proofs.Asked.{ok_answer, err_answer}
 use Rattle.yearbook.proofs.Taken.{taken_refused, taken_accepted}
 use Rattle.yearbook.proofs.book.YearBook.assess.Goals as goal
 
-pub returns-in_err-check_assess : goal.returns-in_err-check_assess
-returns-in_err-check_assess c =
+pub returns-in_err-rest : goal.returns-in_err-rest
+returns-in_err-rest c =
     let p = err_from_is_err_and c.from_residual.result c.from_residual.ensures.1 in
-    record { taken = rw (p.1, p.2) (taken_refused _ _ tt _ (err_answer _ tt _ c.in_err-check_assess.ensures)); unaltered = rw p.1 refl }
+    record { taken = rw (p.1, p.2) (taken_refused _ _ tt _ c.in_err-rest.ensures.asked); unaltered = rw p.1 refl }
 
 pub charge_all-requires : goal.charge_all-requires
-charge_all-requires c = ok_answer _ tt tt c.in_ok-check_assess.ensures
+charge_all-requires c = let o = c.in_ok-rest.ensures.rest in record { rest = o.1; accepted = o.0 }
 
 pub returns : goal.returns
-returns c =
-    record { taken = taken_accepted _ _ tt _ (ok_answer _ tt tt c.in_ok-check_assess.ensures) c.charge_all.ensures; unaltered = tt }
+returns c = record { taken = taken_accepted _ _ tt _ c.in_ok-rest.ensures.rest.0 c.charge_all.ensures; unaltered = tt }

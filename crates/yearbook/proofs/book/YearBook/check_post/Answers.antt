@@ -1,13 +1,10 @@
-use Rattle.std.proofs.Common.{◌≡◌, ℕ, List, length, get_or, pos, ◌+ℤ◌, sym, ap, ◌∙◌, ap₂, arith}
+use Rattle.std.proofs.Common.{◌≡◌, ℕ, List, length, sym, ap, ◌∙◌, ap₂, arith}
 use Rattle.std.proofs.lemmas.Result.{err_from_is_err_and}
 use Rattle.std.proofs.lemmas.List.FromFn.{length-map-range_with_len}
 use Rattle.charges.specs.Rules.{line_of, lines, meaning}
-use Rattle.questions.specs.Questions.{in_turn}
 use Rattle.questions.proofs.Asked.{ok_answer, err_answer}
 use Rattle.sheet.specs.Rows.{rows}
-use Rattle.year.specs.Market.{balance_refusal, coordinators_refusal}
-use Rattle.yearbook.specs.declared.coordinator.Coordinator.{Coordinator}
-use Rattle.yearbook.specs.Coordinators.{nobody}
+use Rattle.year.specs.Market.{coordinators_refusal}
 use Rattle.yearbook.specs.View.{posted_in}
 use Rattle.yearbook.proofs.Posting.{post_8, post_sheet, post_9, post_10, post_11}
 use Rattle.yearbook.proofs.Views.{count_is}
@@ -52,10 +49,10 @@ returns-then-self-from g c =
     let by : c.from-2.result ≡ m.code = omega arith in
     post_10 s m d r sh ok clean known (ap₂ (λ (day code : ℕ). posted_in s.posted code day) (sym on) (sym by) ∙ c.if-self-from.true)
 
-pub check_balances-requires-clause-few : goal.check_balances-requires-clause-few
-check_balances-requires-clause-few g c =
+pub check_balances-requires : goal.check_balances-requires
+check_balances-requires g c =
     let m = meaning (g.R.ChargeRule.code c.args.rule.now) (g.R.ChargeRule.quantity c.args.rule.now) in
-    ap length c.of-lines.ensures ∙ length-map-range_with_len (line_of m c.args.rate _) 0 c.len-count.result ∙ c.len-count.ensures.value ∙ sym (ap length c.deref.ensures.0)
+    ap length c.of-lines.ensures ∙ length-map-range_with_len (line_of m c.args.rate _) 0 c.len-count.result ∙ c.len-count.ensures.value
 
 pub returns-in_err-check_balances : goal.returns-in_err-check_balances
 returns-in_err-check_balances g c =
@@ -71,10 +68,9 @@ returns-in_err-check_balances g c =
     let by : c.from-2.result ≡ m.code = omega arith in
     let unposted = ap₂ (λ (day code : ℕ). posted_in s.posted code day) (sym on) (sym by) ∙ c.if-self-from.false in
     let lines_are = c.of-lines.ensures ∙ ap₂ (λ (n : ℕ) (bs : List ℕ). lines n m r (rows bs)) c.len-count.ensures.value c.in_ok-sheet.ensures.1 in
-    let balanced = ap (λ (cs : List Coordinator). in_turn (length cs) (λ k. balance_refusal k ((get_or cs k nobody).market +ℤ pos (get_or c.of-lines.result.cents.items k 0)))) (sym c.deref.ensures.0) in
     let asked = post_11 s m d r sh ok clean known unposted _ lines_are in
     let p = err_from_is_err_and c.from_residual-in_err-check_balances.result c.from_residual-in_err-check_balances.ensures.1 in
-    rw (p.1, p.2) (asked ∙ balanced ∙ err_answer _ tt _ c.in_err-check_balances.ensures)
+    rw (p.1, p.2) (asked ∙ err_answer _ tt _ c.in_err-check_balances.ensures)
 
 pub returns : goal.returns
 returns g c =
@@ -90,10 +86,9 @@ returns g c =
     let by : c.from-2.result ≡ m.code = omega arith in
     let unposted = ap₂ (λ (day code : ℕ). posted_in s.posted code day) (sym on) (sym by) ∙ c.if-self-from.false in
     let lines_are = c.of-lines.ensures ∙ ap₂ (λ (n : ℕ) (bs : List ℕ). lines n m r (rows bs)) c.len-count.ensures.value c.in_ok-sheet.ensures.1 in
-    let balanced = ap (λ (cs : List Coordinator). in_turn (length cs) (λ k. balance_refusal k ((get_or cs k nobody).market +ℤ pos (get_or c.of-lines.result.cents.items k 0)))) (sym c.deref.ensures.0) in
     let asked = post_11 s m d r sh ok clean known unposted _ lines_are in
     let n = count_is s in
     record {
-      accepted = asked ∙ balanced ∙ ok_answer _ tt tt c.in_ok-check_balances.ensures;
+      accepted = asked ∙ ok_answer _ tt tt c.in_ok-check_balances.ensures;
       lines_are = lines_are ∙ ap (λ k. lines k m r (rows sh)) (sym n);
     }

@@ -2,7 +2,7 @@ use Rattle.std.proofs.Common.{refl, arith}
 use Rattle.std.proofs.lemmas.Result.{err_from_is_err_and}
 use Rattle.questions.proofs.Asked.{ok_answer}
 use Rattle.year.specs.Terms.{terms_of, Terms}
-use Rattle.yearbook.proofs.Opening.{opened_few, opened_bounded, opened_owed, opened_light, opened_is}
+use Rattle.yearbook.proofs.Opening.{opened_owed, opened_is}
 use Rattle.yearbook.proofs.Taken.{refused_leaves, accepted_leaves}
 use Rattle.yearbook.proofs.book.YearBook.open.Goals as goal
 
@@ -20,13 +20,10 @@ invariant_of-self c =
     let t : Terms = terms_of c.args.terms.demands.now c.args.terms.flags.now in
     let ok = ok_answer _ tt tt c.in_ok-check_terms.ensures in
     let e = c.coordinators_of-self.ensures in
-    let cs = c.coordinators_of-self.result.items in
+    let cs = c.coordinators_of-self.result.list.items in
     record {
-      few = opened_few t ok cs e.terms e.markets e.rcs;
-      bounded = opened_bounded t ok cs e.terms e.markets e.rcs;
       owed = opened_owed t ok cs e.terms e.markets e.rcs;
       limited = omega arith;
-      light = opened_light t ok cs e.terms e.markets e.rcs;
     }
 
 pub returns : goal.returns

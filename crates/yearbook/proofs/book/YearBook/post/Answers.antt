@@ -1,18 +1,15 @@
-use Rattle.std.proofs.Common.{◌≡◌, ◌<◌, ℕ, List, [], true, length, get_or, set, sym, ap, ap₂, ◌∙◌, arith, rules}
+use Rattle.std.proofs.Common.{◌≡◌, ◌<◌, ℕ, [], true, length, get_or, set, ap, ap₂, ◌∙◌, arith, rules}
 use Rattle.charges.specs.Rules.{meaning}
 use Rattle.charges.specs.Sums.{total}
-use Rattle.yearbook.specs.Coordinators.{each_with, market_raised}
-use Rattle.yearbook.specs.declared.coordinator.Coordinator.{Coordinator}
-use Rattle.yearbook.proofs.Columns.{through}
-use Rattle.yearbook.proofs.Raised.{length_raise}
-use Rattle.yearbook.proofs.Posting.{day_low, cents_long, post_left, post_keeps}
+use Rattle.yearbook.proofs.Posting.{day_low, cents_long, balanced, post_left, post_owed}
 use Rattle.yearbook.proofs.Taken.{taken_telling}
 use Rattle.yearbook.proofs.book.YearBook.post.Goals as goal
 
-pub add_to-requires-clause-few : goal.add_to-requires-clause-few
-add_to-requires-clause-few g c =
+pub add_to-requires : goal.add_to-requires
+add_to-requires g c =
     let m = meaning (g.R.ChargeRule.code c.args.rule.now) (g.R.ChargeRule.quantity c.args.rule.now) in
-    cents_long c.args.self.now m c.args.day c.args.rate c.args.bytes.now _ c.in_ok-lines.ensures ∙ sym (ap length c.deref_mut.ensures.value)
+    let s = c.args.self.now in
+    record { few = cents_long s m c.args.day c.args.rate c.args.bytes.now _ c.in_ok-lines.ensures; balanced = balanced s m c.args.day c.args.rate c.args.bytes.now _ c.in_ok-lines.ensures }
 
 pub bounds-self-from : goal.bounds-self-from
 bounds-self-from g c =
@@ -24,10 +21,9 @@ pub invariant_of-self : goal.invariant_of-self
 invariant_of-self g c =
     let s = c.args.self.now in
     let m = meaning (g.R.ChargeRule.code c.args.rule.now) (g.R.ChargeRule.quantity c.args.rule.now) in
-    let raised = through _ _ _ c.deref_mut.ensures.value (ap length c.add_to.ensures ∙ length_raise market_raised _ _) ∙ c.add_to.ensures
-    ∙ ap (λ (cs : List Coordinator). each_with market_raised cs c.in_ok-lines.lines.cents.items) c.deref_mut.ensures.value in
-    let k = post_keeps s m c.args.day c.args.rate c.args.bytes.now _ c.in_ok-lines.ensures _ raised in
-    record { few = k.few; bounded = k.bounded; owed = k.owed; limited = s.limited; light = k.light }
+    let raised = c.add_to.ensures in
+    let k = post_owed s m c.args.day c.args.rate c.args.bytes.now _ c.in_ok-lines.ensures _ raised in
+    record { owed = k; limited = s.limited }
 
 pub returns-clause-taken : goal.returns-clause-taken
 returns-clause-taken g c =
@@ -35,8 +31,7 @@ returns-clause-taken g c =
     let m = meaning (g.R.ChargeRule.code c.args.rule.now) (g.R.ChargeRule.quantity c.args.rule.now) in
     let d = c.args.day in
     let billed = c.in_ok-lines.ensures in
-    let raised = through _ _ _ c.deref_mut.ensures.value (ap length c.add_to.ensures ∙ length_raise market_raised _ _) ∙ c.add_to.ensures
-    ∙ ap (λ (cs : List Coordinator). each_with market_raised cs c.in_ok-lines.lines.cents.items) c.deref_mut.ensures.value in
+    let raised = c.add_to.ensures in
     let low = g.met.R.ChargeRule.code_low c.args.rule.now in
     let on : c.from.result ≡ d = omega arith in
     let by : c.from-2.result ≡ m.code = omega arith in

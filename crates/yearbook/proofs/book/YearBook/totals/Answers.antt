@@ -11,7 +11,7 @@ use Rattle.yearbook.proofs.book.YearBook.totals.Goals as goal
 pub overflow_add-rc : goal.overflow_add-rc
 overflow_add-rc c =
     let s = c.args.self.now in
-    let t = s.coordinators.items in
+    let t = s.coordinators.list.items in
     let i = c.loop-coordinator.coordinator-index in
     let d = c.as_slice-coordinator-items.ensures.value in
     let h : i < length t = omega (arith, ap length d) in
@@ -27,15 +27,15 @@ overflow_add-rc c =
 pub loop-coordinator-preserved : goal.loop-coordinator-preserved
 loop-coordinator-preserved c =
     let s = c.args.self.now in
-    let t = s.coordinators.items in
+    let t = s.coordinators.list.items in
     let i = c.loop-coordinator.coordinator-index in
     let d = c.as_slice-coordinator-items.ensures.value in
     let h : i < length t = omega (arith, ap length d) in
     let z : ℤ = (get_or c.as_slice-coordinator-items.result.now i nobody).market in
     let fz : SFits w64 z = search rules in
     let e : z ≡ (get_or t i nobody).market = ap (λ (xs : List Coordinator). (get_or xs i nobody).market) d in
-    let few = s.few in
-    let low : nat_abs z ≤ 1000000000000000 = omega (arith, ap nat_abs e, within_out 1000000000000000 (get_or t i nobody).market (s.bounded i h)) in
+    let few = s.coordinators.few in
+    let low : nat_abs z ≤ 1000000000000000 = omega (arith, ap nat_abs e, within_out 1000000000000000 (get_or t i nobody).market (s.coordinators.bounded i h)) in
     let mi = c.loop-coordinator.market-is in
     let v : nat_abs c.loop-coordinator.market ≤ 1000000000000000 * i = rw mi at c.loop-coordinator.invariant.market_low in
     let b = sum_small c.loop-coordinator.market z i v low in

@@ -3,7 +3,7 @@ use Rattle.year.specs.Spread.{spread}
 use Rattle.year.proofs.Spread.{Underway}
 use Rattle.yearbook.specs.Coordinators.{rc_raised, terms_in}
 use Rattle.yearbook.proofs.Raised.{Raising}
-use Rattle.yearbook.proofs.spreading.carry.Given as goal
+use Rattle.yearbook.proofs.coordinators.Coordinators.carry.Given as goal
 
 abbrev pub invariant-loop-place : goal.invariant-loop-place
 invariant-loop-place l = record {
