@@ -28,6 +28,20 @@ fn resources_of(sheet: Sheet<'_>, coordinator: usize) -> [bool; 256]
     present
 }
 
+// Whether the coordinator may have a row: where the answer is no, it has none.
+fn may_have_rows(sheet: Sheet<'_>, coordinator: usize) -> bool
+    ensures { result ≡ false → (resource : ℕ) → nat_lt 0 (length (pair_rows coordinator resource (sheet_rows sheet.entry))) ≡ false }
+{
+    let first = sheet.first_row(Pair {
+        coordinator,
+        resource: u8::MIN,
+    });
+    let Some(row) = sheet.rows_from(first).next() else {
+        return false;
+    };
+    usize::from(row.key.coordinator) == coordinator
+}
+
 // A pair without rows has quantity zero under every rule, so only the others cost a walk. A function of its own, since a
 // proof loses what is known of the pair where two branches meet in a loop.
 fn quantity_if<R: ChargeRule>(present: bool, rule: &R, sheet: Sheet<'_>, pair: Pair) -> u64
@@ -41,11 +55,14 @@ fn quantity_if<R: ChargeRule>(present: bool, rule: &R, sheet: Sheet<'_>, pair: P
     }
 }
 
-// The sum over the resources.
+// The sum over the resources. Most coordinators have no row on a short sheet, and they cost no pass over all resources.
 pub fn coordinator_quantity<R: ChargeRule>(rule: &R, sheet: Sheet<'_>, coordinator: usize) -> u64
     ensures value { result ≡ quantity_of (meaning (R.code rule.now) (R.quantity rule.now)) coordinator (own_rows coordinator (sheet_rows sheet.entry)) }
     ensures low { result ≤ 819200000000 }
 {
+    if !may_have_rows(sheet, coordinator) {
+        return 0;
+    }
     let present = resources_of(sheet, coordinator);
     let mut sum = 0;
     for resource in 0..=u8::MAX {

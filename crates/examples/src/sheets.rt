@@ -1,6 +1,7 @@
 // Sheets that are refused, and one that is not.
 use crate::rows::{Row, sheet_of};
 use crate::verdict::verdict;
+use questions::fault::Fault;
 use sheet::check::check;
 use sheet::fault::{RowFault, SheetFault};
 use std::alloc::Global;
@@ -10,6 +11,7 @@ struct SheetExample {
     name: &'static str,
     rows: &'static [Row],
     fault: SheetFault,
+    question: u8,
 }
 
 const EXAMPLES: [SheetExample; 2] = [
@@ -22,6 +24,7 @@ const EXAMPLES: [SheetExample; 2] = [
             quantity: 4_000_001,
         }],
         fault: SheetFault::Row(RowFault::TooLarge(0)),
+        question: 5,
     },
     SheetExample {
         name: "equal keys",
@@ -40,19 +43,21 @@ const EXAMPLES: [SheetExample; 2] = [
             },
         ],
         fault: SheetFault::Row(RowFault::NotAbove(1)),
+        question: 3,
     },
 ];
 
-// Checks the sheet that holds the rows.
+// Checks the sheet that holds the rows. A fault is expected with its question's number.
 fn show_check(
     rt: &HostRuntime,
     name: &str,
     rows: &[Row],
-    expected: Result<usize, SheetFault>,
+    expected: Result<usize, (SheetFault, u8)>,
 ) -> anyhow::Result<()> {
     let sheet = sheet_of(rt.alloc(), rows)?;
     let answer = check(sheet.as_slice());
-    let verdict = verdict(answer == expected);
+    let told = answer.map_err(|fault| (fault, fault.question()));
+    let verdict = verdict(told == expected);
     match answer {
         Ok(rows) => println!(rt; "{name}: {rows} rows: {verdict}")?,
         Err(fault) => println!(rt; "{name}: refused {fault}: {verdict}")?,
@@ -79,10 +84,11 @@ pub fn show(rt: &HostRuntime) -> anyhow::Result<()> {
     let rows = many_rows(rt.alloc(), 2048)?;
     show_check(rt, "a sheet of 2048 rows", rows.as_slice(), Ok(2048))?;
     let rows = many_rows(rt.alloc(), 2049)?;
-    let fault = Err(SheetFault::Count);
+    let fault = Err((SheetFault::Count, 1));
     show_check(rt, "a sheet of 2049 rows", rows.as_slice(), fault)?;
     for example in EXAMPLES {
-        show_check(rt, example.name, example.rows, Err(example.fault))?;
+        let fault = Err((example.fault, example.question));
+        show_check(rt, example.name, example.rows, fault)?;
     }
     Ok(())
 }

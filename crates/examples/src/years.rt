@@ -6,6 +6,7 @@ use crate::years::table::EXAMPLES;
 use charges::trade_fee::TradeFee;
 use journal::entry::{Answer, Entry};
 use journal::kept_year::keep_year;
+use questions::fault::Fault;
 use std::alloc::Global;
 use yearbook::book::YearBook;
 use yearbook::fault::BookFault;
@@ -15,7 +16,8 @@ pub struct YearExample {
     pub name: &'static str,
     pub terms: Terms<'static>,
     pub entries: &'static [Entry<'static, TradeFee>],
-    pub refusal: Option<BookFault>,
+    // With its question's number.
+    pub refusal: Option<(BookFault, u8)>,
     pub market: i64,
     pub rc: &'static [u64],
 }
@@ -36,7 +38,9 @@ fn rc_balances(heap: Global, book: &YearBook, count: usize) -> anyhow::Result<Ve
 fn show_year(rt: &HostRuntime, example: &YearExample) -> anyhow::Result<()> {
     let name = example.name;
     let mut book = YearBook::new();
-    let mut answers = vec![in rt.alloc(); Ok(Answer::Accepted); example.entries.len()]?;
+    // One place more than there are entries: it stays as it is.
+    let places = example.entries.len().saturating_add(1);
+    let mut answers = vec![in rt.alloc(); Ok(Answer::Accepted); places]?;
     let _ = keep_year(
         &mut book,
         example.terms,
@@ -47,7 +51,8 @@ fn show_year(rt: &HostRuntime, example: &YearExample) -> anyhow::Result<()> {
     let rc = rc_balances(rt.alloc(), &book, example.terms.demands.len())?;
     let refusal = first_refusal(answers.as_slice());
     let kept = market == example.market && rc.as_slice() == example.rc;
-    let verdict = verdict(kept && refusal == example.refusal);
+    let told = refusal.map(|fault| (fault, fault.question()));
+    let verdict = verdict(kept && told == example.refusal);
     match refusal {
         None => println!(rt; "{name}: accepted, market {market}, RC {rc:?}: {verdict}")?,
         Some(fault) => println!(rt;

@@ -35,6 +35,9 @@ module _ (bytes : List ℕ) (ok : Accepted bytes) where
       let p = first_passed _ _ (nothing_refused bytes ok) in
       and_parts (leb 2 (length bytes)) (leb (row_count bytes) 2048) (ask_passed _ _ _ _ p.0).0
 
+  pub two_bytes : 2 ≤ length bytes
+  two_bytes = leb-true 2 (length bytes) count_passed.0
+
   pub few_rows : row_count bytes ≤ 2048
   few_rows = leb-true (row_count bytes) 2048 count_passed.1
 

@@ -37,6 +37,8 @@ impl TryFrom<u8> for Kind {
 
     ghost try_from_gives = { KindOfByte };
 
+    // Inlined, so that asking for one kind is a comparison and no jump by the byte.
+    #[inline(always)]
     fn try_from(byte: u8) -> Result<Self, UnknownKind> {
         match byte {
             1 => Ok(Kind::DayAheadEnergy),

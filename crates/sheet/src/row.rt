@@ -61,6 +61,7 @@ impl Key {
 
 impl Row {
     // What the row tells of. An accepted sheet's rows have no unknown kinds.
+    #[inline(always)]
     pub fn kind(&self) -> Kind
         requires { known_kind self.now.key.kind ≡ true }
         ensures { is_kind result self.now.key.kind ≡ true }
